@@ -1,0 +1,10 @@
+pub mod Whole
+pub mod Step
+pub mod Loop
+pub mod Table
+pub mod Nan
+pub mod Bits
+pub mod Middle
+pub mod Nearest
+pub mod Rounded
+pub mod Examples

@@ -1,0 +1,231 @@
+-- √x is strictly nearer to `rootOf x` than to any other value, for a finite x above zero: both are written in units of the smallest value, where
+-- proofs/Middle.antt compares their squares, and the comparison is carried back to fractions.
+use mathlib.Core.Path.{_≡_, refl, sym, ap, _∙_, subst}
+use Prim.Native.Nat.{ℕ, zero, suc, _+_, _-_, _*_, _/_, _%_, _^_, _≤_, _<_}
+use native.Mathlib.Nat.{le-trans, le-of-eq, le-of-suc-le-suc, lt-of-not-le, not-le-of-lt, lt-of-lt-of-le, zero-mul, mul-one, mul-comm, mul-assoc, mul-le-mul, mul-le-mul-right, mul-lt-mul-of-pos-right, lt-of-mul-lt-mul-right, mul-pos}
+use native.Mathlib.Omega.{arith}
+use mathlib.Core.Bool.{true, false, _&&_, true≢false}
+use lib.IntN.{ℤ, pos, negsuc}
+use lib.Dec.{T, leb, ltb, eqb, ltb→lt, leb→le, lit≤}
+use lib.Pow.{pow-add, pow-pos, pow-mono, pow-lt}
+use lib.Count.{leadingZeros, leading-top}
+use lib.Ieee.{Float, nan, inf, fin, binary64, up, down, fits, lt}
+use lib.Ieee.Digits.{back}
+use lib.Ieee.Fits.{and-l, and-r}
+use lib.Ieee.Bits.{ofBits-fits}
+use lib.Ieee.Exact.{HasValue, odd-sign}
+use lib.Ieee.Positive.{num, den, positive, den-pos, value→cross, positive-of-value, value-pos, first-pos}
+use Rattle.root.specs.Root.{nearestRoot, rootOfSquare, rootOf}
+use Rattle.root.specs.Nearest.{notNegative, Value, fourTimes, squareOfSum}
+use Rattle.root.proofs.Whole.{IsNearest, nearest-is, nearest-long}
+use Rattle.root.proofs.Bits.{root-of-units, doubled, square-root, cut-exact, written}
+use Rattle.root.proofs.Middle.{upper, lower}
+
+-- ---- a value of the format that is finite and not negative is n * 2 ^ j units, with n below 2 ^ 53
+
+record InUnits (x : Float) (n j : ℕ) : Type 0 where
+  short : n < 2 ^ 53
+  value : HasValue x false (n * 2 ^ j) (2 ^ 1074)
+  bound : n * 2 ^ j < 2 ^ 2098
+
+pow-le-back : (a l : ℕ) → 2 ^ a ≤ 2 ^ l → a ≤ l
+pow-le-back a l h = le-of-suc-le-suc (lt-of-not-le (λ (g : suc l ≤ a). not-le-of-lt (lt-of-lt-of-le (pow-lt g) h) (le-of-eq refl)))
+
+place : (n : ℕ) (e : ℤ) → down e ≤ 2 ^ 1074 → (j : ℕ) × (n * up e * 2 ^ 1074 ≡ n * 2 ^ j * down e)
+place n (pos k) h = (k + 1074, mul-assoc n (2 ^ k) (2 ^ 1074) ∙ ap (λ (x : ℕ). n * x) (sym (pow-add 2 k 1074)) ∙ sym (mul-one (n * 2 ^ (k + 1074))))
+place n (negsuc k) h =
+    let l : suc k ≤ 1074 = pow-le-back (suc k) 1074 h in (
+      1074 - suc k,
+      ap (λ (x : ℕ). x * 2 ^ 1074) (mul-one n)
+          ∙ ap (λ (x : ℕ). n * x) (ap (λ (x : ℕ). 2 ^ x) (sym (back 1074 (suc k) l)) ∙ pow-add 2 (1074 - suc k) (suc k))
+          ∙ sym (mul-assoc n (2 ^ (1074 - suc k)) (2 ^ suc k)),
+    )
+
+in-units : (x : Float) → T (fits binary64 x) → T (notNegative x) → (n : ℕ) × (j : ℕ) × InUnits x n j
+unfolding fits
+in-units nan h p = absurd p
+in-units (inf s) h p = absurd p
+in-units (fin true m e) h p = absurd p
+in-units (fin false zero e) h p = (0, 0, record { short = lit≤ tt; value = (refl, ap (λ (x : ℕ). x * 2 ^ 1074) (zero-mul (up e)) ∙ sym (zero-mul (down e))); bound = lit≤ tt })
+in-units (fin false (suc m) e) h p =
+    let A = eqb (suc m % 2) 1 in
+    let B = ltb (suc m) (2 ^ 53) in
+    let C = leb (down e) (2 ^ 1074) in
+    let D = ltb (suc m * up e) (2 ^ 1024 * down e) in
+    let pl = place (suc m) e (leb→le (down e) (2 ^ 1074) (and-r (A && B) C (and-l (A && B && C) D h))) in
+    let d : suc m * up e < 2 ^ 1024 * down e = ltb→lt (suc m * up e) (2 ^ 1024 * down e) (and-r (A && B && C) D h) in (
+      suc m,
+      pl .0,
+      record {
+        short = ltb→lt (suc m) (2 ^ 53) (and-r A B (and-l (A && B) C (and-l (A && B && C) D h)));
+        value = (refl, pl .1);
+        bound = lt-of-mul-lt-mul-right (down e) (subst (λ (z : ℕ). z < 2 ^ 2098 * down e) (pl .1) (lt-of-lt-of-le (mul-lt-mul-of-pos-right d (pow-pos 1074)) (le-of-eq (scale (down e)))));
+      },
+    )
+  where
+    scale : (d : ℕ) → 2 ^ 1024 * d * 2 ^ 1074 ≡ 2 ^ 2098 * d
+    scale d = mul-assoc (2 ^ 1024) d (2 ^ 1074) ∙ ap (λ (z : ℕ). 2 ^ 1024 * z) (mul-comm d (2 ^ 1074)) ∙ sym (mul-assoc (2 ^ 1024) (2 ^ 1074) d)
+
+-- ---- x as m * 2 ^ g / 2 ^ 2148, with m of 53 digits
+
+normal-form : (n : ℕ) → 0 < n → n < 2 ^ 53 → (s : ℕ) × (s ≤ 52) × (2 ^ 52 ≤ n * 2 ^ s) × (n * 2 ^ s < 2 ^ 53)
+normal-form n p h =
+    let top = leading-top 53 n p h in
+    let j = top .0 in
+    let s = leadingZeros 53 n in
+    let e : s + suc j ≡ 53 = top .1 in
+    let whole : 2 ^ j * 2 ^ s ≡ 2 ^ 52 = sym (pow-add 2 j s) ∙ ap (λ (x : ℕ). 2 ^ x) (lower-place j s e) in
+    let above : 2 ^ suc j * 2 ^ s ≡ 2 ^ 53 = sym (pow-add 2 (suc j) s) ∙ ap (λ (x : ℕ). 2 ^ x) (upper-place j s e) in
+    (s, omega arith, le-trans (le-of-eq (sym whole)) (mul-le-mul-right (2 ^ s) (top .2)), lt-of-lt-of-le (mul-lt-mul-of-pos-right (top .3) (pow-pos s)) (le-of-eq above))
+  where
+    lower-place : (j s : ℕ) → s + suc j ≡ 53 → j + s ≡ 52
+    lower-place j s e = omega arith
+
+    upper-place : (j s : ℕ) → s + suc j ≡ 53 → suc j + s ≡ 53
+    upper-place j s e = omega arith
+
+-- x is X units, and its root is near to q * 2 ^ k units, where X * 2 ^ 1074 is a * 4 ^ k
+record Rooted (x : Float) (X a q k : ℕ) : Type 0 where
+  of : HasValue x false X (2 ^ 1074)
+  square : X * 2 ^ 1074 ≡ a * (2 ^ k * 2 ^ k)
+  wide : 2 ^ 104 ≤ a
+  near : IsNearest a q
+  is : HasValue (rootOf x) false (q * 2 ^ k) (2 ^ 1074)
+  held : T (fits binary64 (rootOf x))
+
+rooted : (x : Float) (n j : ℕ) → InUnits x n j → 0 < n → (a : ℕ) × (q : ℕ) × (k : ℕ) × Rooted x (n * 2 ^ j) a q k
+rooted x n j i p =
+    let f = normal-form n p (i .short) in
+    let s = f .0 in
+    let m = n * 2 ^ s in
+    let g = j + 1074 - s in
+    let X = n * 2 ^ j in
+    let e : X * 2 ^ 1074 ≡ m * 2 ^ g = moved-up s j (f .1) in
+    let w : 52 ≤ g = enough s j (f .1) in
+    let d = doubled m g (f .2) (f .3) in
+    let a = m * 2 ^ (g % 2) * 2 ^ 52 in
+    let k = (g - 52) / 2 in
+    let q = nearestRoot a in
+    let r : rootOf x ≡ rootOfSquare (m * 2 ^ g) = root-of-units x X (i .value) (mul-pos p (pow-pos j)) ∙ ap rootOfSquare e in (
+      a,
+      q,
+      k,
+      record {
+        of = i .value;
+        square = e ∙ cut-exact m g w ∙ ap (λ (z : ℕ). a * z) (twice k);
+        wide = omega (arith, d .least);
+        near = nearest-is a (omega (arith, d .least)) (omega (arith, d .most));
+        is = subst (λ (z : Float). HasValue z false (q * 2 ^ k) (2 ^ 1074)) (sym (r ∙ square-root m g (f .2) (f .3) w)) (odd-sign 53 false q k 1074);
+        held = subst (λ (z : Float). T (fits binary64 z)) (written m g (f .2) (f .3) w (few g (f .2) e) q refl .1 ∙ sym r) (ofBits-fits binary64 (k * 2 ^ 52 + q));
+      },
+    )
+  where
+    enough : (s j : ℕ) → s ≤ 52 → 52 ≤ j + 1074 - s
+    enough s j h = omega arith
+
+    split : (s j : ℕ) → s ≤ 52 → j + 1074 ≡ s + (j + 1074 - s)
+    split s j h = omega arith
+
+    moved-up : (s j : ℕ) → s ≤ 52 → n * 2 ^ j * 2 ^ 1074 ≡ n * 2 ^ s * 2 ^ (j + 1074 - s)
+    moved-up s j h =
+        mul-assoc n (2 ^ j) (2 ^ 1074)
+        ∙ ap (λ (z : ℕ). n * z) (sym (pow-add 2 j 1074) ∙ ap (λ (z : ℕ). 2 ^ z) (split s j h) ∙ pow-add 2 s (j + 1074 - s))
+        ∙ sym (mul-assoc n (2 ^ s) (2 ^ (j + 1074 - s)))
+
+    twice : (k : ℕ) → 2 ^ (2 * k) ≡ 2 ^ k * 2 ^ k
+    twice k = ap (λ (z : ℕ). 2 ^ z) (let t : 2 * k ≡ k + k = omega arith in t) ∙ pow-add 2 k k
+
+    few : {m : ℕ} (g : ℕ) → 2 ^ 52 ≤ m → n * 2 ^ j * 2 ^ 1074 ≡ m * 2 ^ g → g < 3120
+    few {m} g l e = lt-of-not-le (λ (h : 3120 ≤ g). not-le-of-lt (mul-lt-mul-of-pos-right (i .bound) (pow-pos 1074)) (le-trans (mul-le-mul l (pow-mono h)) (le-of-eq (sym e))))
+
+-- ---- from units to fractions
+
+module _ (nx dx nr dr ny dy L X w v : ℕ) (lp : 0 < L) (xp : 0 < dx) (rp : 0 < dr) (yp : 0 < dy) (ex : nx * L ≡ X * dx) (er : nr * L ≡ w * dr) (ey : ny * L ≡ v * dy) where
+  sum-is : (nr * dy + ny * dr) * L ≡ (w + v) * (dr * dy)
+  sum-is =
+      let a : nr * L * dy ≡ w * dr * dy = ap (λ (z : ℕ). z * dy) er in
+      let b : ny * L * dr ≡ v * dy * dr = ap (λ (z : ℕ). z * dr) ey in
+      omega arith
+
+  squares : (S D W : ℕ) → S * L ≡ W * D → S * S * dx * (L * L) ≡ W * W * (dx * (D * D))
+  squares S D W e = let a : S * L * (S * L) * dx ≡ W * D * (W * D) * dx = ap (λ (z : ℕ). z * z * dx) e in omega arith
+
+  fours : (D : ℕ) → 4 * nx * (D * D) * (L * L) ≡ 4 * (X * L) * (dx * (D * D))
+  fours D = let a : nx * L * (L * (D * D)) ≡ X * dx * (L * (D * D)) = ap (λ (z : ℕ). z * (L * (D * D))) ex in omega arith
+
+  scale-pos : 0 < dx * (dr * dy * (dr * dy))
+  scale-pos = mul-pos xp (mul-pos (mul-pos rp yp) (mul-pos rp yp))
+
+  below-middle : 4 * (X * L) < (w + v) * (w + v) → 4 * nx * (dr * dy * (dr * dy)) < (nr * dy + ny * dr) * (nr * dy + ny * dr) * dx
+  below-middle h =
+      lt-of-mul-lt-mul-right (L * L)
+      (rw (fours (dr * dy), squares (nr * dy + ny * dr) (dr * dy) (w + v) sum-is) (mul-lt-mul-of-pos-right h scale-pos))
+
+  above-middle : (w + v) * (w + v) < 4 * (X * L) → (nr * dy + ny * dr) * (nr * dy + ny * dr) * dx < 4 * nx * (dr * dy * (dr * dy))
+  above-middle h =
+      lt-of-mul-lt-mul-right (L * L)
+      (rw (fours (dr * dy), squares (nr * dy + ny * dr) (dr * dy) (w + v) sum-is) (mul-lt-mul-of-pos-right h scale-pos))
+
+-- the order of two values, in units
+lt-units : (x y : Float) (a b : ℕ) → HasValue x false a (2 ^ 1074) → HasValue y false b (2 ^ 1074) → T (lt x y) → a < b
+unfolding lt
+lt-units nan y a b h k l = absurd h
+lt-units (inf s) y a b h k l = absurd h
+lt-units (fin s m e) nan a b h k l = absurd k
+lt-units (fin s m e) (inf t) a b h k l = absurd k
+lt-units (fin true m e) (fin t n d) a b h k l = absurd (true≢false (h .0))
+lt-units (fin false m e) (fin true n d) a b h k l = absurd (true≢false (k .0))
+lt-units (fin false m e) (fin false n d) a b h k l =
+    cross (m * up e) (down e) (n * up d) (down d) (2 ^ 1074) a b (pow-pos 1074) (h .1) (k .1) (ltb→lt (m * up e * down d) (n * up d * down e) l)
+  where
+    cross : (p q r s L a b : ℕ) → 0 < L → p * L ≡ a * q → r * L ≡ b * s → p * s < r * q → a < b
+    cross p q r s L a b lp e f g =
+        lt-of-mul-lt-mul-right (q * s)
+        (let x : p * L * s ≡ a * q * s = ap (λ (z : ℕ). z * s) e in
+        let y : r * L * q ≡ b * s * q = ap (λ (z : ℕ). z * q) f in
+        let z : p * s * L < r * q * L = mul-lt-mul-of-pos-right g lp in
+        omega arith)
+
+-- ---- the comparison, at every value
+
+pub record Nearer (x r : Float) : Type 0 where
+  pub value : Value r
+  pub up : (y : Float) → Value y → T (lt r y) → fourTimes x r y < squareOfSum x r y
+  pub down : (y : Float) → Value y → T (lt y r) → squareOfSum x r y < fourTimes x r y
+
+not-negative : (x : Float) → T (positive x) → T (notNegative x)
+not-negative nan p = absurd p
+not-negative (inf s) p = absurd p
+not-negative (fin true m e) p = absurd p
+not-negative (fin false m e) p = tt
+
+nearest-of : (x : Float) (X a q k : ℕ) → Rooted x X a q k → Nearer x (rootOf x)
+nearest-of x X a q k r =
+    let root = rootOf x in
+    let w = q * 2 ^ k in
+    let L = 2 ^ 1074 in
+    let long : 2 ^ 52 ≤ q = nearest-long a q (r .near) (r .wide) in
+    let ex : num x * L ≡ X * den x = value→cross x X L (r .of) in
+    let er : num root * L ≡ w * den root = value→cross root w L (r .is) in
+    record {
+      value = (r .held, not-negative root (positive-of-value root w L (r .is) (mul-pos (lt-of-lt-of-le (pow-pos 52) long) (pow-pos k))));
+      up = λ y v l.
+          let i = in-units y (v .0) (v .1) in
+          let u = i .0 * 2 ^ i .1 in
+          let ey : num y * L ≡ u * den y = value→cross y u L (i .2 .value) in
+          below-middle (num x) (den x) (num root) (den root) (num y) (den y) L X w u (pow-pos 1074) (den-pos x) (den-pos root) (den-pos y) ex er ey
+          (rw (r .square) (upper a q k (i .0) (i .1) (r .near) long (i .2 .short) (lt-units root y w u (r .is) (i .2 .value) l)));
+      down = λ y v l.
+          let i = in-units y (v .0) (v .1) in
+          let u = i .0 * 2 ^ i .1 in
+          let ey : num y * L ≡ u * den y = value→cross y u L (i .2 .value) in
+          above-middle (num x) (den x) (num root) (den root) (num y) (den y) L X w u (pow-pos 1074) (den-pos x) (den-pos root) (den-pos y) ex er ey
+          (rw (r .square) (lower a q k (i .0) (i .1) (r .near) (r .wide) (i .2 .short) (lt-units y root u w (i .2 .value) (r .is) l)));
+    }
+
+pub root-is-nearer : (x : Float) → T (fits binary64 x) → T (positive x) → Nearer x (rootOf x)
+root-is-nearer x h p =
+    let i = in-units x h (not-negative x p) in
+    let X = i .0 * 2 ^ i .1 in
+    let r = rooted x (i .0) (i .1) (i .2) (first-pos (i .0) (2 ^ i .1) (value-pos x X (2 ^ 1074) p (pow-pos 1074) (i .2 .value))) in
+    nearest-of x X (r .0) (r .1) (r .2) (r .3)

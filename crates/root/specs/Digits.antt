@@ -1,0 +1,28 @@
+-- What the digit loop works out: the whole part of a root, and what is left. Definitions only.
+use mathlib.Core.Path.{_≡_}
+use Prim.Native.Nat.{ℕ, _+_, _*_, _^_, _≤_, _<_}
+
+-- q is the whole part of √a, and r is left
+pub record WholeRoot (a q r : ℕ) : Type 0 where
+  pub digits : q * q + r ≡ a
+  pub rest : r ≤ 2 * q
+
+-- t is the whole part of √x, or up to two less, for an x below 128²
+pub record Estimate (x t : ℕ) : Type 0 where
+  pub low : t * t ≤ x
+  pub high : x < (t + 3) * (t + 3)
+  pub small : t < 128
+
+-- A number with the root q and r left, and two digits h and l to come after it in the base b, no larger than 2 * q; the root with them fits 54 digits
+pub record Digits (q r b h l : ℕ) : Type 0 where
+  pub rest : r ≤ 2 * q
+  pub base : b ≤ 2 * q
+  pub some : 0 < b
+  pub high : h < b
+  pub low : l < b
+  pub room : q * b ≤ 2 ^ 54
+
+-- with the two digits after it the number's root is s, with t left
+pub record Longer (q r b h l s t : ℕ) : Type 0 where
+  pub root : WholeRoot (((q * q + r) * b + h) * b + l) s t
+  pub begins : q * b ≤ s

@@ -1,0 +1,4 @@
+pub mod Root
+pub mod Nearest
+pub mod Digits
+pub mod Examples

@@ -1,0 +1,148 @@
+// The square root of a whole number, with what is left, by Zimmermann's division step: from a root of n digits to one of up to 2n.
+
+ghost use mathlib.Core.Path.{_≡_};
+ghost use Prim.Native.Nat.{_+_, _*_, _^_, _≤_, _<_};
+ghost use Rattle.root.specs.Root.{nearestRoot};
+ghost use Rattle.root.specs.Digits.{WholeRoot, Estimate, Digits, Longer};
+
+// A whole root and its remainder: root * root + rem is the number, and rem is at most 2 * root.
+pub struct RootRem {
+    pub root: u64,
+    pub rem: u64,
+}
+
+// The whole part of the root of 256 * (16 + i), at the index i.
+const ROOTS: [u8; 48] = [
+    64,
+    65,
+    67,
+    69,
+    71,
+    73,
+    75,
+    76,
+    78,
+    80,
+    81,
+    83,
+    84,
+    86,
+    87,
+    89,
+    90,
+    91,
+    93,
+    94,
+    96,
+    97,
+    98,
+    99,
+    101,
+    102,
+    103,
+    104,
+    106,
+    107,
+    108,
+    109,
+    110,
+    112,
+    113,
+    114,
+    115,
+    116,
+    117,
+    118,
+    119,
+    120,
+    121,
+    122,
+    123,
+    124,
+    125,
+    126,
+];
+
+// A whole root that is right or at most two too small.
+fn estimate(x: u64) -> u64
+    requires { ⌜ (4096 ≤ x) × (x < 16384) ⌝ }
+    ensures { λ t. ⌜ Estimate x t ⌝ }
+{
+    let at = (x / 256 - 16) as usize;
+    ROOTS[at] as u64
+}
+
+// The root of a number of 13 or 14 digits.
+fn leading(x: u64) -> RootRem
+    requires { ⌜ (4096 ≤ x) × (x < 16384) ⌝ }
+    ensures { λ s. ⌜ WholeRoot x (s .root) (s .rem) ⌝ }
+{
+    let t = estimate(x);
+    let one = ((t + 1) * (t + 1) <= x) as u64;
+    let two = ((t + 2) * (t + 2) <= x) as u64;
+    let root = t + one + two;
+    RootRem {
+        root,
+        rem: x - root * root,
+    }
+}
+
+// The root of a number with two more digits, h and l, in the base b: the root gets one more, by a division.
+fn longer(q: u64, r: u64, b: u64, h: u64, l: u64) -> RootRem
+    requires { ⌜ Digits q r b h l ⌝ }
+    ensures { λ s. ⌜ Longer q r b h l (s .root) (s .rem) ⌝ }
+{
+    let n = r * b + h;
+    let p = n / (2 * q);
+    let u = n % (2 * q);
+    let s = q * b + p;
+    let v = u * b + l;
+    let f = (v < p * p) as u64;
+    let z = s - f;
+    RootRem {
+        root: z,
+        rem: v + (2 * z + 1) * f - p * p,
+    }
+}
+
+// How many digits the next turn adds to a root of n digits: as many again, up to 53 in all.
+fn gain(n: u64) -> u64
+    requires { ⌜ (0 < n) × (n < 53) ⌝ }
+    ensures { λ s. ⌜ (0 < s) × (s ≤ n) × (n + s ≤ 53) ⌝ }
+{
+    if n < 27 { n } else { 53 - n }
+}
+
+// The root of m * 2 ^ 52, of 53 digits. At the top of d stand the digits of m that are still to be brought down.
+fn sqrt_rem(m: u64) -> RootRem
+    requires { ⌜ (2 ^ 52 ≤ m) × (m < 2 ^ 54) ⌝ }
+    ensures { λ s. ⌜ WholeRoot (m * 2 ^ 52) (s .root) (s .rem) ⌝ }
+{
+    let first = leading(m / 0x100_0000_0000);
+    let mut q = first.root;
+    let mut r = first.rem;
+    let mut d = m << 24;
+    let mut n: u64 = 7;
+    while n < 53 {
+        let s = gain(n);
+        let h = d >> (64 - s);
+        let e = d << s;
+        let l = e >> (64 - s);
+        let next = longer(q, r, 1 << s, h, l);
+        q = next.root;
+        r = next.rem;
+        d = e << s;
+        n += s;
+    }
+    RootRem { root: q, rem: r }
+}
+
+// The whole number nearest to the root of m * 2 ^ 52.
+pub fn nearest_root(m: u64) -> u64
+    requires { ⌜ (2 ^ 52 ≤ m) × (m < 2 ^ 54) ⌝ }
+    ensures { λ r. ⌜ r ≡ nearestRoot (m * 2 ^ 52) ⌝ }
+{
+    let s = sqrt_rem(m);
+    let q = s.root;
+    if q < s.rem { q + 1 } else { q }
+}

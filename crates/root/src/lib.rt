@@ -1,0 +1,39 @@
+// The square root of an f64, IEEE 754's, worked out from bits in whole numbers.
+
+mod digits;
+pub mod patterns;
+
+ghost use mathlib.Core.Path.{_≡_};
+ghost use lib.Ieee.{binary64, ofBits, toBits};
+ghost use Rattle.root.specs.Root.{rootOf};
+
+// The square root of x.
+pub fn root(x: f64) -> f64
+    ensures { λ r. ⌜ r ≡ rootOf x ⌝ }
+{
+    if x != x {
+        return x;
+    }
+    let b = f64::to_bits(x);
+    if b > 0x7ff0_0000_0000_0000 {
+        if b == 0x8000_0000_0000_0000 {
+            return -0.0;
+        }
+        return 0.0 / 0.0;
+    }
+    if b == 0x7ff0_0000_0000_0000 {
+        return x;
+    }
+    if b == 0 {
+        return x;
+    }
+    f64::from_bits(patterns::positive(b))
+}
+
+// The same on bit patterns, for every pattern; a NaN answer is 7FF8000000000000.
+#[no_mangle]
+pub extern "C" fn finder_root(bits: u64) -> u64
+    ensures { λ r. ⌜ r ≡ toBits binary64 (rootOf (ofBits binary64 bits)) ⌝ }
+{
+    patterns::bits_of(root(patterns::float_of(bits)))
+}

@@ -1,0 +1,23 @@
+//! Links the archives that Rattle exports.
+
+use std::env;
+use std::path::Path;
+
+fn main() {
+    let manifest = env::var("CARGO_MANIFEST_DIR").expect("cargo sets CARGO_MANIFEST_DIR");
+    let archives = Path::new(&manifest).join("../target/staticlib");
+    println!("cargo::rustc-link-search=native={}", archives.display());
+    link(&archives, "root");
+}
+
+fn link(archives: &Path, library: &str) {
+    let archive = archives.join(format!("lib{library}.a"));
+    println!("cargo::rerun-if-changed={}", archive.display());
+    if !archive.is_file() {
+        println!(
+            "cargo::error=target/staticlib/lib{library}.a is missing: \
+             make it with `rt staticlib {library}`"
+        );
+    }
+    println!("cargo::rustc-link-lib=static={library}");
+}
