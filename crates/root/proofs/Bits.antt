@@ -2,9 +2,10 @@
 -- is the one that the code packs.
 use mathlib.Core.Path.{_≡_, refl, sym, ap, _∙_, subst}
 use Prim.Native.Nat.{ℕ, zero, suc, _+_, _-_, _*_, _/_, _%_, _^_, _≤_, _<_}
-use native.Mathlib.Nat.{mul-div-cancel, lt-irrefl, mul-pos, zero-mul, zero-add, lt-of-not-le, not-le-of-lt, lt-of-lt-of-le, mul-le-mul-left, mul-le-mul-right, mul-assoc, mul-one, mod-eq-of-lt, add-comm, add-sub-of-le, suc-add, le-trans, le-of-eq, mul-lt-mul-of-pos-right, zero-lt-suc}
+use native.Mathlib.Nat.{mul-div-cancel, lt-irrefl, mul-pos, zero-mul, zero-add, lt-of-not-le, not-le-of-lt, lt-of-lt-of-le, mul-le-mul-left, mul-le-mul-right, mul-assoc, mul-one, mod-eq-of-lt, add-comm, add-sub-of-le, le-trans, le-of-eq, mul-lt-mul-of-pos-right, zero-lt-suc}
 use native.Mathlib.Omega.{arith}
 use mathlib.Core.Bool.{Bool, true, false, not, cond, true≢false, false≢true}
+use lib.IntN.{ℤ}
 use lib.Dec.{T, leb, eqb, lit≤, leb→le, nleb→lt}
 use lib.Count.{leadingZeros, leading-top}
 use lib.Ieee.{Float, nan, inf, fin, binary64, up, down, odd, size, ofFields, ofBits}
@@ -35,13 +36,17 @@ pub of-normal : (x t : ℕ) → suc x < 2047 → t < 2 ^ 52 → ofBits binary64 
 unfolding ofFields
 of-normal x t h l = fields (suc x) t (omega arith) l ∙ rw (ne-eqb (suc x) 2047 (omega arith))
 
+-- a zero has no size
+no-zero : (a : ℕ) (e : ℤ) → 0 < a → 0 * up e * 2 ^ 1074 ≡ a * down e → ⊥
+no-zero a e p h = lt-irrefl 0 (subst (λ (x : ℕ). 0 < x) (sym h ∙ simp zero-mul) (mul-pos p (down-pos e)))
+
 -- the root of a value that is a times 2 ^ -1074
 pub root-of-units : (v : Float) (a : ℕ) → HasValue v false a (2 ^ 1074) → 0 < a → rootOf v ≡ rootOfSquare (a * 2 ^ 1074)
 unfolding rootOf
 root-of-units nan a h p = absurd h
 root-of-units (inf s) a h p = absurd h
 root-of-units (fin true m e) a h p = absurd (true≢false (h .0))
-root-of-units (fin false zero e) a h p = absurd (lt-irrefl 0 (subst (λ (x : ℕ). 0 < x) (sym (h .1) ∙ ap (λ (x : ℕ). x * 2 ^ 1074) (zero-mul (up e)) ∙ zero-mul (2 ^ 1074)) (mul-pos p (down-pos e))))
+root-of-units (fin false zero e) a h p = absurd (no-zero a e p (h .1))
 root-of-units (fin false (suc m) e) a h p = ap (λ (x : ℕ). rootOfSquare (x * 2 ^ 1074)) (ap (λ (x : ℕ). x / down e) (h .1) ∙ mul-div-cancel a (down-pos e))
 
 -- ---- m * 2 ^ g for an m of 53 digits
@@ -125,7 +130,11 @@ read-normal b n h =
     ap (λ (x : ℕ). rootOf (ofBits binary64 x)) (apart b n)
     ∙ ap rootOf (of-normal e t (omega arith) (omega arith))
     ∙ root-of-units (odd 53 false m e 1074) (m * 2 ^ e) (odd-sign 53 false m e 1074) (mul-pos (omega arith) (pow-pos e))
-    ∙ ap rootOfSquare (mul-assoc m (2 ^ e) (2 ^ 1074) ∙ ap (λ (x : ℕ). m * x) (sym (pow-add 2 e 1074)) ∙ ap (λ (x : ℕ). m * 2 ^ x) (places b n) ∙ ap (λ (x : ℕ). x * 2 ^ (b / 2 ^ 52 + 1073)) (add-comm (2 ^ 52) t))
+    ∙ ap rootOfSquare
+    (mul-assoc m (2 ^ e) (2 ^ 1074)
+    ∙ ap (λ (x : ℕ). m * x) (sym (pow-add 2 e 1074))
+    ∙ ap (λ (x : ℕ). m * 2 ^ x) (places b n)
+    ∙ ap (λ (x : ℕ). x * 2 ^ (b / 2 ^ 52 + 1073)) (add-comm (2 ^ 52) t))
   where
     apart : (b : ℕ) → (b / 2 ^ 52 ≡ 0 → ⊥) → b ≡ suc (b / 2 ^ 52 - 1) * 2 ^ 52 + b % 2 ^ 52
     apart b n = omega arith
@@ -138,33 +147,39 @@ pub read-subnormal : (t s : ℕ) → 0 < t → t < 2 ^ 52 → s ≤ 1074 → roo
 read-subnormal t s p h l =
     ap rootOf (of-subnormal t h)
     ∙ root-of-units (odd 53 false t 0 1074) (t * 2 ^ 0) (odd-sign 53 false t 0 1074) (mul-pos p (pow-pos 0))
-    ∙ ap rootOfSquare (ap (λ (x : ℕ). x * 2 ^ 1074) (mul-one t) ∙ ap (λ (x : ℕ). t * x) (ap (λ (x : ℕ). 2 ^ x) (sym (add-sub-of-le l)) ∙ pow-add 2 s (1074 - s)) ∙ sym (mul-assoc t (2 ^ s) (2 ^ (1074 - s))))
+    ∙ ap rootOfSquare
+    (ap (λ (x : ℕ). x * 2 ^ 1074) (mul-one t)
+    ∙ ap (λ (x : ℕ). t * x) (ap (λ (x : ℕ). 2 ^ x) (sym (add-sub-of-le l)) ∙ pow-add 2 s (1074 - s))
+    ∙ sym (mul-assoc t (2 ^ s) (2 ^ (1074 - s))))
 
--- the places that t is moved up by
+-- a number t of at most 53 digits, moved up by as many places as leave it 53, where z of a word's 64 are zeros above it
 pub record Moved (t z : ℕ) : Type 0 where
-  pub enough : 11 < z
+  pub enough : 11 ≤ z
   pub within : z < 64
   pub least : 2 ^ 52 ≤ t * 2 ^ (z - 11)
   pub most : t * 2 ^ (z - 11) < 2 ^ 53
 
-pub moved : (t : ℕ) → 0 < t → t < 2 ^ 52 → Moved t (leadingZeros 64 t)
+pub moved : (t : ℕ) → 0 < t → t < 2 ^ 53 → Moved t (leadingZeros 64 t)
 moved t p h =
     let top = leading-top 64 t p (lt-of-lt-of-le h (lit≤ tt)) in
     let j = top .0 in
     let z = leadingZeros 64 t in
-    let j-lt : j < 52 = lt-of-not-le (λ (g : 52 ≤ j). not-le-of-lt h (le-trans (pow-mono g) (top .2))) in
+    let j-lt : j < 53 = lt-of-not-le (λ (g : 53 ≤ j). not-le-of-lt h (le-trans (pow-mono g) (top .2))) in
     let e : z + suc j ≡ 64 = top .1 in
-    let whole : 2 ^ 52 ≡ 2 ^ j * 2 ^ (z - 11) = ap (λ (x : ℕ). 2 ^ x) (places j z e j-lt) ∙ pow-add 2 j (z - 11) in
-    let above : 2 ^ 53 ≡ 2 ^ suc j * 2 ^ (z - 11) = ap (λ (x : ℕ). 2 ^ suc x) (places j z e j-lt) ∙ ap (λ (x : ℕ). 2 ^ x) (sym (suc-add j (z - 11))) ∙ pow-add 2 (suc j) (z - 11) in
+    let whole : 2 ^ j * 2 ^ (z - 11) ≡ 2 ^ 52 = sym (pow-add 2 j (z - 11)) ∙ ap (λ (x : ℕ). 2 ^ x) (lower-place j z e j-lt) in
+    let above : 2 ^ suc j * 2 ^ (z - 11) ≡ 2 ^ 53 = sym (pow-add 2 (suc j) (z - 11)) ∙ ap (λ (x : ℕ). 2 ^ x) (upper-place j z e j-lt) in
     record {
       enough = omega arith;
       within = omega arith;
-      least = le-trans (le-of-eq whole) (mul-le-mul-right (2 ^ (z - 11)) (top .2));
-      most = lt-of-lt-of-le (mul-lt-mul-of-pos-right (top .3) (pow-pos (z - 11))) (le-of-eq (sym above));
+      least = le-trans (le-of-eq (sym whole)) (mul-le-mul-right (2 ^ (z - 11)) (top .2));
+      most = lt-of-lt-of-le (mul-lt-mul-of-pos-right (top .3) (pow-pos (z - 11))) (le-of-eq above);
     }
   where
-    places : (j z : ℕ) → z + suc j ≡ 64 → j < 52 → 52 ≡ j + (z - 11)
-    places j z e h = omega arith
+    lower-place : (j z : ℕ) → z + suc j ≡ 64 → j < 53 → j + (z - 11) ≡ 52
+    lower-place j z e h = omega arith
+
+    upper-place : (j z : ℕ) → z + suc j ≡ 64 → j < 53 → suc j + (z - 11) ≡ 53
+    upper-place j z e h = omega arith
 
 -- ---- below zero, and a NaN
 
@@ -173,7 +188,7 @@ unfolding rootOf
 root-of-negative nan a h p = absurd h
 root-of-negative (inf s) a h p = absurd h
 root-of-negative (fin false m e) a h p = absurd (false≢true (h .0))
-root-of-negative (fin true zero e) a h p = absurd (lt-irrefl 0 (subst (λ (x : ℕ). 0 < x) (sym (h .1) ∙ ap (λ (x : ℕ). x * 2 ^ 1074) (zero-mul (up e)) ∙ zero-mul (2 ^ 1074)) (mul-pos p (down-pos e))))
+root-of-negative (fin true zero e) a h p = absurd (no-zero a e p (h .1))
 root-of-negative (fin true (suc m) e) a h p = refl
 
 negative-fields : (x t : ℕ) → (x ≡ 0 → t ≡ 0 → ⊥) → rootOf (ofFields binary64 true x t) ≡ nan

@@ -1,7 +1,6 @@
 pub mod Whole
 pub mod Step
 pub mod Loop
-pub mod Table
 pub mod Nan
 pub mod Bits
 pub mod Middle

@@ -67,7 +67,8 @@ pub lower : (a q k n j : ℕ) → IsNearest a q → 2 ^ 104 ≤ a → n < 2 ^ 53
     → (q * 2 ^ k + n * 2 ^ j) * (q * 2 ^ k + n * 2 ^ j) < 4 * (a * (2 ^ k * 2 ^ k))
 lower a q k n j h w s g = go q h g (leb (q * q) a) (leb→le _ _) (nleb→lt _ _)
   where
-    go : (q : ℕ) → IsNearest a q → n * 2 ^ j < q * 2 ^ k → (t : Bool) → (T t → q * q ≤ a) → (T (not t) → a < q * q) → (q * 2 ^ k + n * 2 ^ j) * (q * 2 ^ k + n * 2 ^ j) < 4 * (a * (2 ^ k * 2 ^ k))
+    go : (q : ℕ) → IsNearest a q → n * 2 ^ j < q * 2 ^ k → (t : Bool) → (T t → q * q ≤ a) → (T (not t) → a < q * q)
+        → (q * 2 ^ k + n * 2 ^ j) * (q * 2 ^ k + n * 2 ^ j) < 4 * (a * (2 ^ k * 2 ^ k))
     go q h g true x y = down-exact a q (2 ^ k) (n * 2 ^ j) (x tt) g
     go zero h g false x y = absurd (lt-irrefl 0 (omega arith))
     go (suc p) h g false x y =

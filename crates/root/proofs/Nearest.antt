@@ -2,13 +2,13 @@
 -- proofs/Middle.antt compares their squares, and the comparison is carried back to fractions.
 use mathlib.Core.Path.{_≡_, refl, sym, ap, _∙_, subst}
 use Prim.Native.Nat.{ℕ, zero, suc, _+_, _-_, _*_, _/_, _%_, _^_, _≤_, _<_}
-use native.Mathlib.Nat.{le-trans, le-of-eq, le-of-suc-le-suc, lt-of-not-le, not-le-of-lt, lt-of-lt-of-le, zero-mul, mul-one, mul-comm, mul-assoc, mul-le-mul, mul-le-mul-right, mul-lt-mul-of-pos-right, lt-of-mul-lt-mul-right, mul-pos}
+use native.Mathlib.Nat.{le-trans, le-of-eq, le-of-suc-le-suc, lt-of-not-le, not-le-of-lt, lt-of-lt-of-le, zero-mul, mul-one, mul-comm, mul-assoc, mul-le-mul, mul-lt-mul-of-pos-right, lt-of-mul-lt-mul-right, mul-pos}
 use native.Mathlib.Omega.{arith}
 use mathlib.Core.Bool.{true, false, _&&_, true≢false}
 use lib.IntN.{ℤ, pos, negsuc}
 use lib.Dec.{T, leb, ltb, eqb, ltb→lt, leb→le, lit≤}
 use lib.Pow.{pow-add, pow-pos, pow-mono, pow-lt}
-use lib.Count.{leadingZeros, leading-top}
+use lib.Count.{leadingZeros}
 use lib.Ieee.{Float, nan, inf, fin, binary64, up, down, fits, lt}
 use lib.Ieee.Digits.{back}
 use lib.Ieee.Fits.{and-l, and-r}
@@ -18,7 +18,7 @@ use lib.Ieee.Positive.{num, den, positive, den-pos, value→cross, positive-of-v
 use Rattle.root.specs.Root.{nearestRoot, rootOfSquare, rootOf}
 use Rattle.root.specs.Nearest.{notNegative, Value, fourTimes, squareOfSum}
 use Rattle.root.proofs.Whole.{IsNearest, nearest-is, nearest-long}
-use Rattle.root.proofs.Bits.{root-of-units, doubled, square-root, cut-exact, written}
+use Rattle.root.proofs.Bits.{root-of-units, moved, doubled, square-root, cut-exact, written}
 use Rattle.root.proofs.Middle.{upper, lower}
 
 -- ---- a value of the format that is finite and not negative is n * 2 ^ j units, with n below 2 ^ 53
@@ -68,22 +68,6 @@ in-units (fin false (suc m) e) h p =
 
 -- ---- x as m * 2 ^ g / 2 ^ 2148, with m of 53 digits
 
-normal-form : (n : ℕ) → 0 < n → n < 2 ^ 53 → (s : ℕ) × (s ≤ 52) × (2 ^ 52 ≤ n * 2 ^ s) × (n * 2 ^ s < 2 ^ 53)
-normal-form n p h =
-    let top = leading-top 53 n p h in
-    let j = top .0 in
-    let s = leadingZeros 53 n in
-    let e : s + suc j ≡ 53 = top .1 in
-    let whole : 2 ^ j * 2 ^ s ≡ 2 ^ 52 = sym (pow-add 2 j s) ∙ ap (λ (x : ℕ). 2 ^ x) (lower-place j s e) in
-    let above : 2 ^ suc j * 2 ^ s ≡ 2 ^ 53 = sym (pow-add 2 (suc j) s) ∙ ap (λ (x : ℕ). 2 ^ x) (upper-place j s e) in
-    (s, omega arith, le-trans (le-of-eq (sym whole)) (mul-le-mul-right (2 ^ s) (top .2)), lt-of-lt-of-le (mul-lt-mul-of-pos-right (top .3) (pow-pos s)) (le-of-eq above))
-  where
-    lower-place : (j s : ℕ) → s + suc j ≡ 53 → j + s ≡ 52
-    lower-place j s e = omega arith
-
-    upper-place : (j s : ℕ) → s + suc j ≡ 53 → suc j + s ≡ 53
-    upper-place j s e = omega arith
-
 -- x is X units, and its root is near to q * 2 ^ k units, where X * 2 ^ 1074 is a * 4 ^ k
 record Rooted (x : Float) (X a q k : ℕ) : Type 0 where
   of : HasValue x false X (2 ^ 1074)
@@ -95,14 +79,15 @@ record Rooted (x : Float) (X a q k : ℕ) : Type 0 where
 
 rooted : (x : Float) (n j : ℕ) → InUnits x n j → 0 < n → (a : ℕ) × (q : ℕ) × (k : ℕ) × Rooted x (n * 2 ^ j) a q k
 rooted x n j i p =
-    let f = normal-form n p (i .short) in
-    let s = f .0 in
+    let f = moved n p (i .short) in
+    let s = leadingZeros 64 n - 11 in
+    let few-places : s ≤ 52 = omega arith in
     let m = n * 2 ^ s in
     let g = j + 1074 - s in
     let X = n * 2 ^ j in
-    let e : X * 2 ^ 1074 ≡ m * 2 ^ g = moved-up s j (f .1) in
-    let w : 52 ≤ g = enough s j (f .1) in
-    let d = doubled m g (f .2) (f .3) in
+    let e : X * 2 ^ 1074 ≡ m * 2 ^ g = moved-up s j few-places in
+    let w : 52 ≤ g = enough s j few-places in
+    let d = doubled m g (f .least) (f .most) in
     let a = m * 2 ^ (g % 2) * 2 ^ 52 in
     let k = (g - 52) / 2 in
     let q = nearestRoot a in
@@ -115,8 +100,8 @@ rooted x n j i p =
         square = e ∙ cut-exact m g w ∙ ap (λ (z : ℕ). a * z) (twice k);
         wide = omega (arith, d .least);
         near = nearest-is a (omega (arith, d .least)) (omega (arith, d .most));
-        is = subst (λ (z : Float). HasValue z false (q * 2 ^ k) (2 ^ 1074)) (sym (r ∙ square-root m g (f .2) (f .3) w)) (odd-sign 53 false q k 1074);
-        held = subst (λ (z : Float). T (fits binary64 z)) (written m g (f .2) (f .3) w (few g (f .2) e) q refl .1 ∙ sym r) (ofBits-fits binary64 (k * 2 ^ 52 + q));
+        is = subst (λ (z : Float). HasValue z false (q * 2 ^ k) (2 ^ 1074)) (sym (r ∙ square-root m g (f .least) (f .most) w)) (odd-sign 53 false q k 1074);
+        held = subst (λ (z : Float). T (fits binary64 z)) (written m g (f .least) (f .most) w (few g (f .least) e) q refl .1 ∙ sym r) (ofBits-fits binary64 (k * 2 ^ 52 + q));
       },
     )
   where
@@ -140,31 +125,9 @@ rooted x n j i p =
 
 -- ---- from units to fractions
 
-module _ (nx dx nr dr ny dy L X w v : ℕ) (lp : 0 < L) (xp : 0 < dx) (rp : 0 < dr) (yp : 0 < dy) (ex : nx * L ≡ X * dx) (er : nr * L ≡ w * dr) (ey : ny * L ≡ v * dy) where
-  sum-is : (nr * dy + ny * dr) * L ≡ (w + v) * (dr * dy)
-  sum-is =
-      let a : nr * L * dy ≡ w * dr * dy = ap (λ (z : ℕ). z * dy) er in
-      let b : ny * L * dr ≡ v * dy * dr = ap (λ (z : ℕ). z * dr) ey in
-      omega arith
-
-  squares : (S D W : ℕ) → S * L ≡ W * D → S * S * dx * (L * L) ≡ W * W * (dx * (D * D))
-  squares S D W e = let a : S * L * (S * L) * dx ≡ W * D * (W * D) * dx = ap (λ (z : ℕ). z * z * dx) e in omega arith
-
-  fours : (D : ℕ) → 4 * nx * (D * D) * (L * L) ≡ 4 * (X * L) * (dx * (D * D))
-  fours D = let a : nx * L * (L * (D * D)) ≡ X * dx * (L * (D * D)) = ap (λ (z : ℕ). z * (L * (D * D))) ex in omega arith
-
-  scale-pos : 0 < dx * (dr * dy * (dr * dy))
-  scale-pos = mul-pos xp (mul-pos (mul-pos rp yp) (mul-pos rp yp))
-
-  below-middle : 4 * (X * L) < (w + v) * (w + v) → 4 * nx * (dr * dy * (dr * dy)) < (nr * dy + ny * dr) * (nr * dy + ny * dr) * dx
-  below-middle h =
-      lt-of-mul-lt-mul-right (L * L)
-      (rw (fours (dr * dy), squares (nr * dy + ny * dr) (dr * dy) (w + v) sum-is) (mul-lt-mul-of-pos-right h scale-pos))
-
-  above-middle : (w + v) * (w + v) < 4 * (X * L) → (nr * dy + ny * dr) * (nr * dy + ny * dr) * dx < 4 * nx * (dr * dy * (dr * dy))
-  above-middle h =
-      lt-of-mul-lt-mul-right (L * L)
-      (rw (fours (dr * dy), squares (nr * dy + ny * dr) (dr * dy) (w + v) sum-is) (mul-lt-mul-of-pos-right h scale-pos))
+-- A and B times K are a and b times S, so they are in the same order
+scaled-lt : (A B a b K S : ℕ) → A * K ≡ a * S → B * K ≡ b * S → 0 < S → a < b → A < B
+scaled-lt A B a b K S e f p h = lt-of-mul-lt-mul-right K (rw (e, f) (mul-lt-mul-of-pos-right h p))
 
 -- the order of two values, in units
 lt-units : (x y : Float) (a b : ℕ) → HasValue x false a (2 ^ 1074) → HasValue y false b (2 ^ 1074) → T (lt x y) → a < b
@@ -176,15 +139,34 @@ lt-units (fin s m e) (inf t) a b h k l = absurd k
 lt-units (fin true m e) (fin t n d) a b h k l = absurd (true≢false (h .0))
 lt-units (fin false m e) (fin true n d) a b h k l = absurd (true≢false (k .0))
 lt-units (fin false m e) (fin false n d) a b h k l =
-    cross (m * up e) (down e) (n * up d) (down d) (2 ^ 1074) a b (pow-pos 1074) (h .1) (k .1) (ltb→lt (m * up e * down d) (n * up d * down e) l)
+    scaled-lt a b (m * up e * down d) (n * up d * down e) (down e * down d) (2 ^ 1074)
+    (cross (m * up e) (down e) (down d) (2 ^ 1074) a (h .1))
+    (ap (λ (z : ℕ). b * z) (mul-comm (down e) (down d)) ∙ cross (n * up d) (down d) (down e) (2 ^ 1074) b (k .1))
+    (pow-pos 1074)
+    (ltb→lt (m * up e * down d) (n * up d * down e) l)
   where
-    cross : (p q r s L a b : ℕ) → 0 < L → p * L ≡ a * q → r * L ≡ b * s → p * s < r * q → a < b
-    cross p q r s L a b lp e f g =
-        lt-of-mul-lt-mul-right (q * s)
-        (let x : p * L * s ≡ a * q * s = ap (λ (z : ℕ). z * s) e in
-        let y : r * L * q ≡ b * s * q = ap (λ (z : ℕ). z * q) f in
-        let z : p * s * L < r * q * L = mul-lt-mul-of-pos-right g lp in
-        omega arith)
+    cross : (p q s L a : ℕ) → p * L ≡ a * q → a * (q * s) ≡ p * s * L
+    cross p q s L a e = let x : p * L * s ≡ a * q * s = ap (λ (z : ℕ). z * s) e in omega arith
+
+-- the two numbers that the rule compares, for x, r and y that are X, w and v units, L to a whole: both times L² have the same factor
+module _ (nx dx nr dr ny dy L X w v : ℕ) (ex : nx * L ≡ X * dx) (er : nr * L ≡ w * dr) (ey : ny * L ≡ v * dy) where
+  abbrev D : ℕ
+  D = dr * dy
+
+  fours : 4 * nx * (D * D) * (L * L) ≡ 4 * (X * L) * (dx * (D * D))
+  fours = let a : nx * L * (L * (D * D)) ≡ X * dx * (L * (D * D)) = ap (λ (z : ℕ). z * (L * (D * D))) ex in omega arith
+
+  sum-is : (nr * dy + ny * dr) * L ≡ (w + v) * D
+  sum-is =
+      let a : nr * L * dy ≡ w * dr * dy = ap (λ (z : ℕ). z * dy) er in
+      let b : ny * L * dr ≡ v * dy * dr = ap (λ (z : ℕ). z * dr) ey in
+      omega arith
+
+  squares : (nr * dy + ny * dr) * (nr * dy + ny * dr) * dx * (L * L) ≡ (w + v) * (w + v) * (dx * (D * D))
+  squares = factored (nr * dy + ny * dr) D (w + v) sum-is
+    where
+      factored : (S D W : ℕ) → S * L ≡ W * D → S * S * dx * (L * L) ≡ W * W * (dx * (D * D))
+      factored S D W e = let a : S * L * (S * L) * dx ≡ W * D * (W * D) * dx = ap (λ (z : ℕ). z * z * dx) e in omega arith
 
 -- ---- the comparison, at every value
 
@@ -199,29 +181,56 @@ not-negative (inf s) p = absurd p
 not-negative (fin true m e) p = absurd p
 not-negative (fin false m e) p = tt
 
-nearest-of : (x : Float) (X a q k : ℕ) → Rooted x X a q k → Nearer x (rootOf x)
-nearest-of x X a q k r =
-    let root = rootOf x in
-    let w = q * 2 ^ k in
-    let L = 2 ^ 1074 in
-    let long : 2 ^ 52 ≤ q = nearest-long a q (r .near) (r .wide) in
-    let ex : num x * L ≡ X * den x = value→cross x X L (r .of) in
-    let er : num root * L ≡ w * den root = value→cross root w L (r .is) in
-    record {
-      value = (r .held, not-negative root (positive-of-value root w L (r .is) (mul-pos (lt-of-lt-of-le (pow-pos 52) long) (pow-pos k))));
-      up = λ y v l.
-          let i = in-units y (v .0) (v .1) in
-          let u = i .0 * 2 ^ i .1 in
-          let ey : num y * L ≡ u * den y = value→cross y u L (i .2 .value) in
-          below-middle (num x) (den x) (num root) (den root) (num y) (den y) L X w u (pow-pos 1074) (den-pos x) (den-pos root) (den-pos y) ex er ey
-          (rw (r .square) (upper a q k (i .0) (i .1) (r .near) long (i .2 .short) (lt-units root y w u (r .is) (i .2 .value) l)));
-      down = λ y v l.
-          let i = in-units y (v .0) (v .1) in
-          let u = i .0 * 2 ^ i .1 in
-          let ey : num y * L ≡ u * den y = value→cross y u L (i .2 .value) in
-          above-middle (num x) (den x) (num root) (den root) (num y) (den y) L X w u (pow-pos 1074) (den-pos x) (den-pos root) (den-pos y) ex er ey
-          (rw (r .square) (lower a q k (i .0) (i .1) (r .near) (r .wide) (i .2 .short) (lt-units y root u w (i .2 .value) (r .is) l)));
-    }
+module _ (x : Float) (X a q k : ℕ) (r : Rooted x X a q k) where
+  abbrev root : Float
+  root = rootOf x
+
+  abbrev L : ℕ
+  L = 2 ^ 1074
+
+  abbrev w : ℕ
+  w = q * 2 ^ k
+
+  long : 2 ^ 52 ≤ q
+  long = nearest-long a q (r .near) (r .wide)
+
+  root-value : Value root
+  root-value = (r .held, not-negative root (positive-of-value root w L (r .is) (mul-pos (lt-of-lt-of-le (pow-pos 52) long) (pow-pos k))))
+
+  -- another value, in units
+  module _ (y : Float) (n j : ℕ) (i : InUnits y n j) where
+    abbrev v : ℕ
+    v = n * 2 ^ j
+
+    abbrev S : ℕ
+    S = den x * (den root * den y * (den root * den y))
+
+    positive-scale : 0 < S
+    positive-scale = let d = mul-pos (den-pos root) (den-pos y) in mul-pos (den-pos x) (mul-pos d d)
+
+    four : fourTimes x root y * (L * L) ≡ 4 * (X * L) * S
+    four = fours (num x) (den x) (num root) (den root) (num y) (den y) L X w v (value→cross x X L (r .of)) (value→cross root w L (r .is)) (value→cross y v L (i .value))
+
+    square : squareOfSum x root y * (L * L) ≡ (w + v) * (w + v) * S
+    square = squares (num x) (den x) (num root) (den root) (num y) (den y) L X w v (value→cross x X L (r .of)) (value→cross root w L (r .is)) (value→cross y v L (i .value))
+
+    nearer-up : T (lt root y) → fourTimes x root y < squareOfSum x root y
+    nearer-up l =
+        scaled-lt _ _ _ _ (L * L) S four square positive-scale
+        (rw (r .square) (upper a q k n j (r .near) long (i .short) (lt-units root y w v (r .is) (i .value) l)))
+
+    nearer-down : T (lt y root) → squareOfSum x root y < fourTimes x root y
+    nearer-down l =
+        scaled-lt _ _ _ _ (L * L) S square four positive-scale
+        (rw (r .square) (lower a q k n j (r .near) (r .wide) (i .short) (lt-units y root v w (i .value) (r .is) l)))
+
+  nearest-of : Nearer x root
+  nearest-of =
+      record {
+        value = root-value;
+        up = λ y v. let i = in-units y (v .0) (v .1) in nearer-up y (i .0) (i .1) (i .2);
+        down = λ y v. let i = in-units y (v .0) (v .1) in nearer-down y (i .0) (i .1) (i .2);
+      }
 
 pub root-is-nearer : (x : Float) → T (fits binary64 x) → T (positive x) → Nearer x (rootOf x)
 root-is-nearer x h p =

@@ -5,7 +5,7 @@ use mathlib.Core.Path.{_≡_, refl, sym, ap, _∙_}
 use mathlib.Core.Logic.{_⊎_, inl, inr, ⊎-elim}
 use mathlib.Core.Bool.{Bool, true, false, not, _&&_, _||_}
 use Prim.Native.Nat.{ℕ, _+_, _-_, _*_, _/_, _^_, _≤_, _<_}
-use native.Mathlib.Nat.{le-antisymm, le-of-lt, le-of-suc-le-suc, lt-of-not-le, lt-irrefl, mul-right-comm}
+use native.Mathlib.Nat.{le-antisymm, le-of-lt, le-of-suc-le-suc, lt-of-not-le, lt-irrefl, zero-add, mul-right-comm}
 use native.Mathlib.Omega.{arith}
 use lib.Dec.{T, ltb, eqb, lt→ltb, nltb→le}
 use lib.Ieee.{Float, nan, inf, fin, binary64, up, down, size, fits, lt, eq, ne, toBits, ofBits}
@@ -67,13 +67,15 @@ unfolding toBits
 bits-of nan p n e = absurd p
 bits-of (inf s) p n e = absurd p
 bits-of (fin true m z) p n e = absurd p
-bits-of (fin false m z) p n e = ap (λ (n : ℕ). 0 + (size n - 53) * 2 ^ 52 + n / 2 ^ (size n - 53)) e ∙ ap (λ (y : ℕ). y + n / 2 ^ (size n - 53)) (let t : 0 + (size n - 53) * 2 ^ 52 ≡ (size n - 53) * 2 ^ 52 = omega arith in t)
+bits-of (fin false m z) p n e =
+    ap (λ (n : ℕ). 0 + (size n - 53) * 2 ^ 52 + n / 2 ^ (size n - 53)) e ∙ ap (λ (y : ℕ). y + n / 2 ^ (size n - 53)) (zero-add ((size n - 53) * 2 ^ 52))
 
 same-value : (x y : Float) → Value x → Value y → num x * den y ≡ num y * den x → x ≡ y
 same-value x y v w e =
     let L = 2 ^ 1074 in
     let n = num y * L / den y in
-    let u : num x * L / den x ≡ n = div-same (num x * L) (den x) (num y * L) (den y) (den-pos x) (den-pos y) (mul-right-comm (num x) L (den y) ∙ ap (λ (z : ℕ). z * L) e ∙ mul-right-comm (num y) (den x) L) in
+    let cross : num x * L * den y ≡ num y * L * den x = mul-right-comm (num x) L (den y) ∙ ap (λ (z : ℕ). z * L) e ∙ mul-right-comm (num y) (den x) L in
+    let u : num x * L / den x ≡ n = div-same (num x * L) (den x) (num y * L) (den y) (den-pos x) (den-pos y) cross in
     sym (ofBits-toBits binary64 x (v .0)) ∙ ap (ofBits binary64) (bits-of x (v .1) n u ∙ sym (bits-of y (w .1) n refl)) ∙ ofBits-toBits binary64 y (w .0)
 
 less : (x y : Float) → T (notNegative x) → T (notNegative y) → num x * den y < num y * den x → T (lt x y)

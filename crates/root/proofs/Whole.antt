@@ -13,6 +13,17 @@ use Rattle.root.specs.Digits.{WholeRoot}
 pub root-lt : (a b : ℕ) → a * a < b * b → a < b
 root-lt a b h = lt-of-not-le (λ (g : b ≤ a). not-le-of-lt h (mul-le-mul g g))
 
+-- (a - b)² is not negative
+pub twice-product : (a b : ℕ) → 2 * (a * b) ≤ a * a + b * b
+twice-product a b = go (leb a b) (leb→le a b) (nleb→lt a b)
+  where
+    ordered : (a d : ℕ) → 2 * (a * (a + d)) ≤ a * a + (a + d) * (a + d)
+    ordered a d = omega arith
+
+    go : (t : Bool) → (T t → a ≤ b) → (T (not t) → b < a) → 2 * (a * b) ≤ a * a + b * b
+    go true h k = let l = h tt in let e : a + (b - a) ≡ b = omega arith in rw e at (ordered a (b - a))
+    go false h k = let l = k tt in let e : b + (a - b) ≡ a = omega arith in omega (arith, rw e at (ordered b (a - b)))
+
 -- q is the whole part of √a
 pub record IsRoot (a q : ℕ) : Type 0 where
   pub low : q * q ≤ a

@@ -1,4 +1,4 @@
-// The square root of a whole number, with what is left, by Zimmermann's division step: from a root of n digits to one of up to 2n.
+// The square root of a whole number, with what is left, by Zimmermann's division step: from n digits of a root to as many again.
 
 ghost use mathlib.Core.Path.{_≡_};
 ghost use Prim.Native.Nat.{_+_, _*_, _^_, _≤_, _<_};
@@ -11,65 +11,12 @@ pub struct RootRem {
     pub rem: u64,
 }
 
-// The whole part of the root of 256 * (16 + i), at the index i.
-const ROOTS: [u8; 48] = [
-    64,
-    65,
-    67,
-    69,
-    71,
-    73,
-    75,
-    76,
-    78,
-    80,
-    81,
-    83,
-    84,
-    86,
-    87,
-    89,
-    90,
-    91,
-    93,
-    94,
-    96,
-    97,
-    98,
-    99,
-    101,
-    102,
-    103,
-    104,
-    106,
-    107,
-    108,
-    109,
-    110,
-    112,
-    113,
-    114,
-    115,
-    116,
-    117,
-    118,
-    119,
-    120,
-    121,
-    122,
-    123,
-    124,
-    125,
-    126,
-];
-
-// A whole root that is right or at most two too small.
+// A whole root that is right or at most two too small, by a chord of the root below 8192 and another from there on.
 fn estimate(x: u64) -> u64
     requires { ⌜ (4096 ≤ x) × (x < 16384) ⌝ }
     ensures { λ t. ⌜ Estimate x t ⌝ }
 {
-    let at = (x / 256 - 16) as usize;
-    ROOTS[at] as u64
+    if x < 8192 { 38 + x / 160 } else { 54 + x / 224 }
 }
 
 // The root of a number of 13 or 14 digits.

@@ -1,6 +1,7 @@
 // The square root of an f64, IEEE 754's, worked out from bits in whole numbers.
 
 mod digits;
+mod normal;
 pub mod patterns;
 
 ghost use mathlib.Core.Path.{_≡_};
@@ -15,19 +16,19 @@ pub fn root(x: f64) -> f64
         return x;
     }
     let b = f64::to_bits(x);
-    if b > 0x7ff0_0000_0000_0000 {
-        if b == 0x8000_0000_0000_0000 {
+    if b > patterns::INFINITY {
+        if b == patterns::SIGN {
             return -0.0;
         }
         return 0.0 / 0.0;
     }
-    if b == 0x7ff0_0000_0000_0000 {
+    if b == patterns::INFINITY {
         return x;
     }
     if b == 0 {
         return x;
     }
-    f64::from_bits(patterns::positive(b))
+    f64::from_bits(normal::positive(b))
 }
 
 // The same on bit patterns, for every pattern; a NaN answer is 7FF8000000000000.

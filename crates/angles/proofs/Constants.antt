@@ -1,0 +1,18 @@
+-- Each pattern is the rounded number that its field names: both sides compute to the same float.
+use lib.Ieee.{ofBits, ofInt, mul, div, round}
+use mathlib.Core.Path.{refl}
+use Rattle.angles.specs.Constants.{Constants}
+
+pub constants : Constants
+unfolding ofBits ofInt mul div round
+constants =
+    record {
+      plusZero-is = refl;
+      one-is = refl;
+      pi-is = refl;
+      halfPi-is = refl;
+      quarterPi-is = refl;
+      twoPi-is = refl;
+      transitionZ-is = refl;
+      epsilon-is = refl;
+    }

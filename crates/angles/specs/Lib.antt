@@ -1,0 +1,4 @@
+pub mod Floats
+pub mod Constants
+pub mod Inverse
+pub mod Circular

@@ -1,0 +1,4 @@
+pub mod Vectors
+pub mod LonLats
+pub mod Points
+pub mod Quarters

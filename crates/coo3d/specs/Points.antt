@@ -1,0 +1,30 @@
+-- A point is a record of five floats, x, y, z, longitude and latitude (document 01, "Points"). Definitions only.
+use lib.Ieee.{Float, neg, lt, le}
+use mathlib.Core.Bool.{Bool, cond, _&&_}
+use Rattle.angles.specs.Floats.{plusZero}
+use Rattle.angles.specs.Constants.{halfPi, twoPi}
+use Rattle.coo3d.specs.declared.vect3.Vect3.{Vect3}
+use Rattle.coo3d.specs.declared.point.Coo3D.{Coo3D}
+use Rattle.coo3d.specs.Vectors.{vect}
+use Rattle.coo3d.specs.LonLats.{lonLatOf, vec3Of}
+
+abbrev pub coo3D : Float → Float → Float → Float → Float → Coo3D
+coo3D a b c l m = record { x = a; y = b; z = c; lon = l; lat = m }
+
+-- from a vector
+unfoldable pub fromVec3 : Float → Float → Float → Coo3D
+fromVec3 a b c = let p = lonLatOf a b c in coo3D a b c (p .lon) (p .lat)
+
+-- a longitude in [0, 2π) and a latitude in [−π/2, π/2]
+unfoldable pub inRange : Float → Float → Bool
+inRange lon lat = le plusZero lon && lt lon twoPi && le (neg halfPi) lat && le lat halfPi
+
+-- from angles, which stay as they are in that range
+unfoldable pub fromSphCoo : Float → Float → Coo3D
+fromSphCoo lon lat =
+    let v = vec3Of lon lat in
+    cond (inRange lon lat) (coo3D (v .x) (v .y) (v .z) lon lat) (fromVec3 (v .x) (v .y) (v .z))
+
+-- a point's vector
+unfoldable pub vectOf : Coo3D → Vect3
+vectOf p = vect (p .x) (p .y) (p .z)
