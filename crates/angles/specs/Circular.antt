@@ -5,7 +5,7 @@ use Prim.Native.Nat.{ℕ, zero, suc, _*_}
 use mathlib.Core.Bool.{Bool, cond}
 use mathlib.Core.List.{[], _∷_}
 use Rattle.angles.specs.declared.circular.SinCos.{SinCos}
-use Rattle.angles.specs.Floats.{_⊖_, _⊗_, whole, one, signOf, absOf}
+use Rattle.angles.specs.Floats.{_⊖_, _⊗_, ofNat, one, signOf, absOf}
 use Rattle.angles.specs.Constants.{halfPi, quarterPi}
 use Rattle.angles.specs.Inverse.{over, minusOver, horner}
 
@@ -41,9 +41,9 @@ withinQuarterTurn r =
 -- k is the largest of 0..3 with k×(π/2) ≤ |v|
 unfoldable pub quarterTurns : Float → ℕ
 quarterTurns a =
-    cond (le (whole 3 ⊗ halfPi) a) 3
-    (cond (le (whole 2 ⊗ halfPi) a) 2
-    (cond (le (whole 1 ⊗ halfPi) a) 1 0))
+    cond (le (ofNat 3 ⊗ halfPi) a) 3
+    (cond (le (ofNat 2 ⊗ halfPi) a) 2
+    (cond (le (ofNat 1 ⊗ halfPi) a) 1 0))
 
 -- for k = 0..3: (s, c), (c, −s), (−s, −c), (−c, s)
 unfoldable pub turnedBy : ℕ → SinCos → SinCos
@@ -62,4 +62,4 @@ unfoldable pub sinCosOf : Float → SinCos
 sinCosOf v =
     cond (ne v v) (sinCos nan nan)
     (let k = quarterTurns (absOf v) in
-    signedSine (signOf v) (turnedBy k (withinQuarterTurn (absOf v ⊖ whole k ⊗ halfPi))))
+    signedSine (signOf v) (turnedBy k (withinQuarterTurn (absOf v ⊖ ofNat k ⊗ halfPi))))

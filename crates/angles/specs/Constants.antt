@@ -3,7 +3,7 @@ use lib.Ieee.{Float, binary64, ofBits, round}
 use Prim.Native.Nat.{_^_}
 use mathlib.Core.Bool.{false}
 use mathlib.Core.Path.{_≡_}
-use Rattle.angles.specs.Floats.{_⊗_, _⊘_, whole, plusZero, one}
+use Rattle.angles.specs.Floats.{_⊗_, _⊘_, ofNat, plusZero, one}
 
 -- π, "the f64 constant"; π/2, π/4 and 2π
 abbrev pub pi : Float
@@ -28,11 +28,11 @@ epsilon = ofBits binary64 0x3cb0_0000_0000_0000
 
 -- What each pattern stands for, those of `Floats` included. The decimals of π are those of Rust's `std::f64::consts::PI`.
 pub record Constants : Type 0 where
-  pub plusZero-is : plusZero ≡ whole 0
-  pub one-is : one ≡ whole 1
+  pub plusZero-is : plusZero ≡ ofNat 0
+  pub one-is : one ≡ ofNat 1
   pub pi-is : pi ≡ round binary64 false 314159265358979323846264338327950288 (10 ^ 35)
-  pub halfPi-is : halfPi ≡ one ⊘ whole 2 ⊗ pi
-  pub quarterPi-is : quarterPi ≡ pi ⊘ whole 4
-  pub twoPi-is : twoPi ≡ whole 2 ⊗ pi
-  pub transitionZ-is : transitionZ ≡ whole 2 ⊘ whole 3
+  pub halfPi-is : halfPi ≡ one ⊘ ofNat 2 ⊗ pi
+  pub quarterPi-is : quarterPi ≡ pi ⊘ ofNat 4
+  pub twoPi-is : twoPi ≡ ofNat 2 ⊗ pi
+  pub transitionZ-is : transitionZ ≡ ofNat 2 ⊘ ofNat 3
   pub epsilon-is : epsilon ≡ round binary64 false 1 (2 ^ 52)

@@ -22,8 +22,8 @@ abbrev pub _⊘_ : Float → Float → Float
 x ⊘ y = div binary64 x y
 
 -- the whole number n; +0, 1
-abbrev pub whole : ℕ → Float
-whole n = ofInt binary64 (pos n)
+abbrev pub ofNat : ℕ → Float
+ofNat n = ofInt binary64 (pos n)
 
 abbrev pub plusZero : Float
 plusZero = ofBits binary64 0

@@ -4,15 +4,15 @@ use Prim.Native.Nat.{ℕ}
 use mathlib.Core.Bool.{Bool, cond, _&&_}
 use mathlib.Core.List.{List, [], _∷_}
 use Rattle.root.specs.Root.{rootOf}
-use Rattle.angles.specs.Floats.{_⊕_, _⊖_, _⊗_, _⊘_, whole, plusZero, one, signOf, finiteOf, absOf, signedOf}
+use Rattle.angles.specs.Floats.{_⊕_, _⊖_, _⊗_, _⊘_, ofNat, plusZero, one, signOf, finiteOf, absOf, signedOf}
 use Rattle.angles.specs.Constants.{pi, halfPi}
 
 -- 1/n and −1/n, each one division
 abbrev pub over : ℕ → Float
-over n = one ⊘ whole n
+over n = one ⊘ ofNat n
 
 abbrev pub minusOver : ℕ → Float
-minusOver n = neg one ⊘ whole n
+minusOver n = neg one ⊘ ofNat n
 
 -- start at s, then multiply by u and add the next coefficient
 unfoldable pub horner : Float → Float → List Float → Float
@@ -29,7 +29,7 @@ arctangentOf t₀ =
     let t = halfAngle (halfAngle t₀) in
     horner (t ⊗ t) (minusOver 23)
     (over 21 ∷ minusOver 19 ∷ over 17 ∷ minusOver 15 ∷ over 13 ∷ minusOver 11 ∷ over 9 ∷ minusOver 7 ∷ over 5 ∷ minusOver 3 ∷ one ∷ [])
-    ⊗ t ⊗ whole 4
+    ⊗ t ⊗ ofNat 4
 
 -- of |y| and |x|: 0 if both are zero; the arctangent of |y|/|x| if |y| ≤ |x|; else π/2 minus that of |x|/|y|
 unfoldable pub firstQuadrant : Float → Float → Float

@@ -26,8 +26,8 @@ unfoldable pub lonLatOf : Float → Float → Float → LonLat
 lonLatOf x y z = record { lon = turnedIn (atan2Of y x); lat = latOf x y z }
 
 -- `UnitVect3::lonlat`
-unfoldable pub lonLat : Vect3 → LonLat
-lonLat v = record { lon = turnedUp (atan2Of (v .y) (v .x)); lat = latOf (v .x) (v .y) (v .z) }
+unfoldable pub unitLonLat : Vect3 → LonLat
+unitLonLat v = record { lon = turnedUp (atan2Of (v .y) (v .x)); lat = latOf (v .x) (v .y) (v .z) }
 
 -- `vec3_of`
 unfoldable pub vec3Of : Float → Float → Vect3

@@ -5,7 +5,7 @@ use super::vect3::Vect3;
 use angles::circular;
 use angles::inverse;
 ghost use mathlib.Core.Path.{_≡_};
-ghost use Rattle.coo3d.specs.LonLats.{turnedUp, turnedIn, latOf, lonLatOf, lonLat, vec3Of};
+ghost use Rattle.coo3d.specs.LonLats.{turnedUp, turnedIn, latOf, lonLatOf, unitLonLat, vec3Of};
 
 pub struct LonLat {
     pub lon: f64,
@@ -50,7 +50,7 @@ pub fn lonlat_of(x: f64, y: f64, z: f64) -> LonLat
 impl Vect3 {
     // The source's UnitVect3::lonlat.
     pub fn lonlat(self) -> LonLat
-        ensures { λ r. ⌜ r ≡ lonLat self ⌝ }
+        ensures { λ r. ⌜ r ≡ unitLonLat self ⌝ }
     {
         LonLat {
             lon: turned_up(inverse::atan2(self.y, self.x)),

@@ -1,4 +1,4 @@
--- Each return is the branch of `quarterTurns` that the tests chose; the literals 1, 2 and 3 compute to the same floats as `whole`.
+-- Each return is the branch of `quarterTurns` that the tests chose; the literals 1, 2 and 3 compute to the same floats as `ofNat`.
 use lib.Ieee.{ofInt, ofBits}
 use Rattle.angles.specs.Circular.{quarterTurns}
 use Rattle.angles.proofs.circular.quarter_turns.Statement.{statement}

@@ -1,6 +1,6 @@
--- The callees' contracts give the angle, the turn and the latitude of `lonLat`.
+-- The callees' contracts give the angle, the turn and the latitude of `unitLonLat`.
 use borrow.Author.Needs.{needs}
-use Rattle.coo3d.specs.LonLats.{lonLat}
+use Rattle.coo3d.specs.LonLats.{unitLonLat}
 use Rattle.coo3d.proofs.vect3.Vect3.lonlat.Statement.{statement}
 use Rattle.coo3d.proofs.vect3.Vect3.lonlat.Tie as tie
 
@@ -14,7 +14,7 @@ lat-of-requires : tie.Need-lat-of-requires
 lat-of-requires c κs = search needs
 
 returns : tie.Need-returns
-unfolding lonLat
+unfolding unitLonLat
 returns c = simp (← c .lat-of .ensures, ← c .before .turned-up .ensures, ← c .before .before .atan2 .ensures)
 
 pub lonlat-spec : {M : Type 1} → statement M
