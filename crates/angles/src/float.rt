@@ -1,14 +1,7 @@
 // Helpers in place of Rust's methods on f64.
 
 ghost use mathlib.Core.Path.{_≡_};
-ghost use lib.Ieee.{nan};
 ghost use Rattle.angles.specs.Floats.{signOf, finiteOf, absOf, signedOf, minOf, maxOf};
-
-pub fn not_a_number() -> f64
-    ensures { λ r. ⌜ r ≡ nan ⌝ }
-{
-    0.0 / 0.0
-}
 
 // Whether the sign bit of x is set.
 pub fn sign(x: f64) -> bool

@@ -3,6 +3,7 @@
 use super::HALF_PI;
 use super::PI;
 use super::float;
+use root::patterns;
 ghost use mathlib.Core.Path.{_≡_};
 ghost use Rattle.angles.specs.Inverse.{halfAngle, arctangentOf, firstQuadrant, reflectedOf, atan2Of, acosOf};
 
@@ -60,7 +61,7 @@ pub fn atan2(y: f64, x: f64) -> f64
         let a = first_quadrant(float::abs(y), float::abs(x));
         float::signed(float::sign(y), reflected(float::sign(x), a))
     } else {
-        float::not_a_number()
+        patterns::not_a_number()
     }
 }
 
@@ -70,6 +71,6 @@ pub fn acos(c: f64) -> f64
     if (-1.0 <= c) & (c <= 1.0) {
         atan2(root::root((1.0 - c) * (1.0 + c)), c)
     } else {
-        float::not_a_number()
+        patterns::not_a_number()
     }
 }

@@ -5,30 +5,32 @@ use super::vect3::Vect3;
 use angles::circular;
 use angles::inverse;
 ghost use mathlib.Core.Path.{_≡_};
-ghost use Rattle.coo3d.specs.LonLats.{turnedUp, turnedIn, latOf, lonLatOf, unitLonLat, vec3Of};
+ghost use Rattle.coo3d.specs.LonLats.{unitLonOf, lonOf, latOf, lonLatOf, unitLonLat, vec3Of};
 
 pub struct LonLat {
     pub lon: f64,
     pub lat: f64,
 }
 
-// An angle of atan2 as UnitVect3::lonlat takes it.
-fn turned_up(lon: f64) -> f64
-    ensures { λ r. ⌜ r ≡ turnedUp lon ⌝ }
+// The longitude as UnitVect3::lonlat gives it.
+fn unit_lon_of(x: f64, y: f64) -> f64
+    ensures { λ r. ⌜ r ≡ unitLonOf x y ⌝ }
 {
-    if lon < 0.0 { lon + Coo3D::TWO_PI } else { lon }
+    let a = inverse::atan2(y, x);
+    if a < 0.0 { a + Coo3D::TWO_PI } else { a }
 }
 
-// The same as lonlat_of takes it.
-fn turned_in(lon: f64) -> f64
-    ensures { λ r. ⌜ r ≡ turnedIn lon ⌝ }
+// The longitude as lonlat_of gives it.
+fn lon_of(x: f64, y: f64) -> f64
+    ensures { λ r. ⌜ r ≡ lonOf x y ⌝ }
 {
-    if lon < 0.0 {
-        lon + Coo3D::TWO_PI
-    } else if lon == Coo3D::TWO_PI {
+    let a = inverse::atan2(y, x);
+    if a < 0.0 {
+        a + Coo3D::TWO_PI
+    } else if a == Coo3D::TWO_PI {
         0.0
     } else {
-        lon
+        a
     }
 }
 
@@ -42,7 +44,7 @@ pub fn lonlat_of(x: f64, y: f64, z: f64) -> LonLat
     ensures { λ r. ⌜ r ≡ lonLatOf x y z ⌝ }
 {
     LonLat {
-        lon: turned_in(inverse::atan2(y, x)),
+        lon: lon_of(x, y),
         lat: lat_of(x, y, z),
     }
 }
@@ -53,7 +55,7 @@ impl Vect3 {
         ensures { λ r. ⌜ r ≡ unitLonLat self ⌝ }
     {
         LonLat {
-            lon: turned_up(inverse::atan2(self.y, self.x)),
+            lon: unit_lon_of(self.x, self.y),
             lat: lat_of(self.x, self.y, self.z),
         }
     }

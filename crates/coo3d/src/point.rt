@@ -2,7 +2,6 @@
 
 use super::lonlat;
 use super::vect3::Vect3;
-use angles::PI;
 ghost use mathlib.Core.Path.{_≡_};
 ghost use Rattle.coo3d.specs.Points.{fromVec3, inRange, fromSphCoo, vectOf};
 
@@ -14,7 +13,7 @@ pub struct Coo3D {
     pub lat: f64,
 }
 
-// Whether a longitude and a latitude are those of a point as they stand.
+// Whether from_sph_coo keeps the two angles as they are.
 fn in_range(lon: f64, lat: f64) -> bool
     ensures { λ r. ⌜ r ≡ inRange lon lat ⌝ }
 {
@@ -22,9 +21,9 @@ fn in_range(lon: f64, lat: f64) -> bool
 }
 
 impl Coo3D {
-    pub const HALF_PI: f64 = 0.5 * PI;
+    pub const HALF_PI: f64 = angles::HALF_PI;
 
-    pub const TWO_PI: f64 = 2.0 * PI;
+    pub const TWO_PI: f64 = 2.0 * angles::PI;
 
     // Document 01's T.
     pub const TRANSITION_Z: f64 = 2.0 / 3.0;

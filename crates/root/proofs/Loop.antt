@@ -80,7 +80,7 @@ module _ (m d q r n : ℕ) (fits : m < 2 ^ 54) (i : Brought m d q r n) where
 
     module _ (h e l d' : ℕ) (first : Digit (2 ^ s) d h e) (second : Digit (2 ^ s) e l d') where
       pub asked : Digits q r (2 ^ s) h l
-      asked = record { rest = i .rest; base = base; some = pow-pos s; high = first .high; low = second .high; room = product }
+      asked = record { rest = i .rest; base = base; high = first .high; low = second .high; room = product }
 
       pub turn : (q' r' : ℕ) → Longer q r (2 ^ s) h l q' r' → Brought m d' q' r' (n + s)
       turn q' r' k =

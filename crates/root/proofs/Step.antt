@@ -30,7 +30,7 @@ parts q r b h l a = go ((r * b + h) / (2 * q)) ((r * b + h) % (2 * q)) (sym (div
         let pp : p * p ≤ b * b = mul-le-mul digit digit in
         let bb : b * b ≤ 2 * q * b = mul-le-mul-right b (a .base) in
         let ub : suc u * b ≤ 2 * q * b = mul-le-mul-right b k in
-        let q2 : q * 1 ≤ q * b = mul-le-mul-left q (a .some) in
+        let q2 : q * 1 ≤ q * b = mul-le-mul-left q (omega (arith, a .high)) in
         let q1 : 1 * b ≤ q * b = mul-le-mul-right b (omega arith) in
         record { whole = e; under = k; digit = digit; square = omega arith; carried = omega arith; next = omega arith; short = omega arith; wide = omega arith }
 

@@ -13,11 +13,11 @@ pub record Estimate (x t : ℕ) : Type 0 where
   pub high : x < (t + 3) * (t + 3)
   pub small : t < 128
 
--- A number with the root q and r left, and two digits h and l to come after it in the base b, no larger than 2 * q; the root with them fits 54 digits
+-- What a turn starts from: a number with the whole root q and r left, and its next two digits h and l, in a base b of at most 2 * q. `room` keeps
+-- the longer root within a word.
 pub record Digits (q r b h l : ℕ) : Type 0 where
   pub rest : r ≤ 2 * q
   pub base : b ≤ 2 * q
-  pub some : 0 < b
   pub high : h < b
   pub low : l < b
   pub room : q * b ≤ 2 ^ 54

@@ -1,7 +1,8 @@
--- Document 01, "Examples": "Root of 2 is 3FF6A09E667F3BCD; of 4 is 2; of 2⁻¹⁰⁷⁴ is 2⁻⁵³⁷; of −0 is −0; of −1 NaN." Definitions only.
+-- Document 01, "Examples": "Root of 2 is 3FF6A09E667F3BCD; of 4 is 2; of 2⁻¹⁰⁷⁴ is 2⁻⁵³⁷; of −0 is −0; of −1 NaN." And "Jobs
+-- and replies": "A NaN is written 7FF8000000000000." Definitions only.
 use mathlib.Core.Path.{_≡_}
 use lib.IntN.{pos, negsuc}
-use lib.Ieee.{nan, binary64, ofInt, ofBits, neg, round}
+use lib.Ieee.{nan, binary64, ofInt, ofBits, toBits, neg, round}
 use Prim.Native.Nat.{_^_}
 use mathlib.Core.Bool.{false}
 use Rattle.root.specs.Root.{rootOf}
@@ -12,3 +13,4 @@ pub record RootExamples : Type 0 where
   pub of-least : rootOf (round binary64 false 1 (2 ^ 1074)) ≡ round binary64 false 1 (2 ^ 537)
   pub of-minus-zero : rootOf (neg (ofInt binary64 (pos 0))) ≡ neg (ofInt binary64 (pos 0))
   pub of-minus-one : rootOf (ofInt binary64 (negsuc 0)) ≡ nan
+  pub nan-written : toBits binary64 nan ≡ 0x7ff8_0000_0000_0000

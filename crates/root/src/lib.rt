@@ -20,7 +20,7 @@ pub fn root(x: f64) -> f64
         if b == patterns::SIGN {
             return -0.0;
         }
-        return 0.0 / 0.0;
+        return patterns::not_a_number();
     }
     if b == patterns::INFINITY {
         return x;

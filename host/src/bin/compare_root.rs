@@ -30,7 +30,7 @@ struct Comparison {
 }
 
 impl Comparison {
-    fn set(&mut self, name: &str, patterns: impl IntoIterator<Item = u64>) {
+    fn compare(&mut self, name: &str, patterns: impl IntoIterator<Item = u64>) {
         let (mut compared, mut differ) = (0, 0);
         for bits in patterns {
             let (answer, expected) = (root(bits), expected_root(bits));
@@ -206,14 +206,14 @@ fn main() -> ExitCode {
     };
     let mut random = Random::new(SEED);
     let mut comparison = Comparison::default();
-    comparison.set("special values", special_values());
-    comparison.set("every exponent", every_exponent(&mut random));
-    comparison.set("subnormals", subnormals(&mut random));
-    comparison.set("squares", squares(&mut random));
-    comparison.set("trailing zeros", trailing_zeros(&mut random));
-    comparison.set("midpoints", midpoints(&mut random));
-    comparison.set("closest midpoints", closest_midpoints(&mut random));
-    comparison.set("random", (0..count).map(|_| random.next_u64()));
+    comparison.compare("special values", special_values());
+    comparison.compare("every exponent", every_exponent(&mut random));
+    comparison.compare("subnormals", subnormals(&mut random));
+    comparison.compare("squares", squares(&mut random));
+    comparison.compare("trailing zeros", trailing_zeros(&mut random));
+    comparison.compare("midpoints", midpoints(&mut random));
+    comparison.compare("closest midpoints", closest_midpoints(&mut random));
+    comparison.compare("random", (0..count).map(|_| random.next_u64()));
     let Comparison { compared, differ } = comparison;
     println!("root: {compared} patterns compared, {differ} differ");
     if differ == 0 {

@@ -4,7 +4,7 @@ use Prim.Native.Nat.{ℕ, _^_, _<_}
 use native.Mathlib.Omega.{arith}
 use borrow.Author.Needs.{needs}
 use lib.Dec.{T}
-use lib.Ieee.{Float, binary64, nan, div, neg, fits, toBits, ofBits}
+use lib.Ieee.{Float, binary64, nan, neg, fits, toBits, ofBits}
 use lib.Ieee.Bits.{ofBits-toBits, toBits-lt}
 use Rattle.root.specs.Root.{rootOf}
 use Rattle.root.proofs.Nan.{no-nan, only-nan, no-nan-pattern}
@@ -43,14 +43,13 @@ minus-zero = refl
 returns-2 : tie.Need-returns-2
 returns-2 c = minus-zero ∙ ap (λ (b : ℕ). rootOf (ofBits binary64 b)) (sym (c .if3 .taken)) ∙ ap rootOf (back (c .before .before .before))
 
-a-nan : div binary64 (ofBits binary64 0) (ofBits binary64 0) ≡ nan
-unfolding div ofBits
-a-nan = refl
+not-a-number-requires : tie.Need-not-a-number-requires
+not-a-number-requires c κs = search needs
 
 returns-3 : tie.Need-returns-3
 returns-3 c =
-    let s = c .before .before .before in
-    a-nan ∙ sym (read-high _ (c .before .if2 .taken) (bits s) (c .if3 .left)) ∙ ap rootOf (back s)
+    let s = c .before .before .before .before in
+    c .not-a-number .ensures ∙ sym (read-high _ (c .before .before .if2 .taken) (bits s) (c .before .if3 .left)) ∙ ap rootOf (back s)
 
 returns-4 : tie.Need-returns-4
 returns-4 c = own _ _ (back (c .before .before .before)) (of-infinity _ (c .if4 .taken))
@@ -74,6 +73,7 @@ root-spec =
     returns
     float-to-bits-b
     returns-2
+    not-a-number-requires
     returns-3
     returns-4
     returns-5

@@ -1,21 +1,18 @@
--- The callees' contracts give the angle, the turn and the latitude of `unitLonLat`.
-use borrow.Author.Needs.{needs}
+-- The contracts of `unit_lon_of` and `lat_of` give the two angles of `unitLonLat`.
 use Rattle.coo3d.specs.LonLats.{unitLonLat}
+use borrow.Author.Needs.{needs}
 use Rattle.coo3d.proofs.vect3.Vect3.lonlat.Statement.{statement}
 use Rattle.coo3d.proofs.vect3.Vect3.lonlat.Tie as tie
 
-atan2-requires : tie.Need-atan2-requires
-atan2-requires c κs = search needs
-
-turned-up-requires : tie.Need-turned-up-requires
-turned-up-requires c κs = search needs
+unit-lon-of-requires : tie.Need-unit-lon-of-requires
+unit-lon-of-requires c κs = search needs
 
 lat-of-requires : tie.Need-lat-of-requires
 lat-of-requires c κs = search needs
 
 returns : tie.Need-returns
 unfolding unitLonLat
-returns c = simp (← c .lat-of .ensures, ← c .before .turned-up .ensures, ← c .before .before .atan2 .ensures)
+returns c = simp (← c .lat-of .ensures, ← c .before .unit-lon-of .ensures)
 
 pub lonlat-spec : {M : Type 1} → statement M
-lonlat-spec = tie.close (tie.spec atan2-requires turned-up-requires lat-of-requires returns)
+lonlat-spec = tie.close (tie.spec unit-lon-of-requires lat-of-requires returns)
