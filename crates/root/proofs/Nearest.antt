@@ -191,6 +191,12 @@ module _ (x : Float) (X a q k : ℕ) (r : Rooted x X a q k) where
   abbrev w : ℕ
   w = q * 2 ^ k
 
+  ex : num x * L ≡ X * den x
+  ex = value→cross x X L (r .of)
+
+  er : num root * L ≡ w * den root
+  er = value→cross root w L (r .is)
+
   long : 2 ^ 52 ≤ q
   long = nearest-long a q (r .near) (r .wide)
 
@@ -205,14 +211,17 @@ module _ (x : Float) (X a q k : ℕ) (r : Rooted x X a q k) where
     abbrev S : ℕ
     S = den x * (den root * den y * (den root * den y))
 
+    ey : num y * L ≡ v * den y
+    ey = value→cross y v L (i .value)
+
     positive-scale : 0 < S
     positive-scale = let d = mul-pos (den-pos root) (den-pos y) in mul-pos (den-pos x) (mul-pos d d)
 
     four : fourTimes x root y * (L * L) ≡ 4 * (X * L) * S
-    four = fours (num x) (den x) (num root) (den root) (num y) (den y) L X w v (value→cross x X L (r .of)) (value→cross root w L (r .is)) (value→cross y v L (i .value))
+    four = fours (num x) (den x) (num root) (den root) (num y) (den y) L X w v ex er ey
 
     square : squareOfSum x root y * (L * L) ≡ (w + v) * (w + v) * S
-    square = squares (num x) (den x) (num root) (den root) (num y) (den y) L X w v (value→cross x X L (r .of)) (value→cross root w L (r .is)) (value→cross y v L (i .value))
+    square = squares (num x) (den x) (num root) (den root) (num y) (den y) L X w v ex er ey
 
     nearer-up : T (lt root y) → fourTimes x root y < squareOfSum x root y
     nearer-up l =
