@@ -9,10 +9,20 @@ constants =
     record {
       plusZero-is = refl;
       one-is = refl;
+      half-is = refl;
+      oneAndHalf-is = refl;
+      two-is = refl;
+      three-is = refl;
+      four-is = refl;
       pi-is = refl;
       halfPi-is = refl;
       quarterPi-is = refl;
+      eighthPi-is = refl;
       twoPi-is = refl;
       transitionZ-is = refl;
       epsilon-is = refl;
+      meridianLimit-is = refl;
+      shortLimit-is = refl;
+      partOfHeight-is = refl;
+      leastLimit-is = refl;
     }

@@ -12,14 +12,6 @@ pub struct LonLat {
     pub lat: f64,
 }
 
-// The longitude as UnitVect3::lonlat gives it.
-fn unit_lon_of(x: f64, y: f64) -> f64
-    ensures { λ r. ⌜ r ≡ unitLonOf x y ⌝ }
-{
-    let a = inverse::atan2(y, x);
-    if a < 0.0 { a + Coo3D::TWO_PI } else { a }
-}
-
 // The longitude as lonlat_of gives it.
 fn lon_of(x: f64, y: f64) -> f64
     ensures { λ r. ⌜ r ≡ lonOf x y ⌝ }
@@ -50,12 +42,20 @@ pub fn lonlat_of(x: f64, y: f64, z: f64) -> LonLat
 }
 
 impl Vect3 {
+    // The longitude that lonlat gives.
+    pub fn lon(self) -> f64
+        ensures { λ r. ⌜ r ≡ unitLonOf (self .x) (self .y) ⌝ }
+    {
+        let a = inverse::atan2(self.y, self.x);
+        if a < 0.0 { a + Coo3D::TWO_PI } else { a }
+    }
+
     // The source's UnitVect3::lonlat.
     pub fn lonlat(self) -> LonLat
         ensures { λ r. ⌜ r ≡ unitLonLat self ⌝ }
     {
         LonLat {
-            lon: unit_lon_of(self.x, self.y),
+            lon: self.lon(),
             lat: lat_of(self.x, self.y, self.z),
         }
     }

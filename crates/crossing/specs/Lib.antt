@@ -1,0 +1,2 @@
+pub mod GreatArcs
+pub mod Parallels

@@ -1,0 +1,44 @@
+-- Document 01, "Walks": when a walk ends by itself within an allowance, and what two allowances have to do with it. Definitions and claims;
+-- `proofs/Allowances.antt` proves them.
+use lib.Ieee.{Float}
+use lib.Dec.{leb}
+use Prim.Native.Nat.{ℕ, zero, suc, _≤_}
+use mathlib.Core.Path.{_≡_}
+use mathlib.Core.Bool.{false, cond}
+use mathlib.Core.List.{List, [], _∷_}
+use mathlib.Core.Logic.{_⊎_, _↔_}
+use Rattle.newton.specs.Walks.{startWalk, goingOf, stepOf, walkOf}
+use Rattle.newton.specs.declared.slope.Slope.{Slope}
+use Rattle.newton.specs.declared.walk.Start.{Start}
+use Rattle.newton.specs.declared.walk.Walk.{Walk}
+
+-- k steps, run with no allowance at all and no test
+unfoldable pub freeSteps : Slope → ℕ → Walk → Walk
+freeSteps slope zero w = w
+freeSteps slope (suc k) w = freeSteps slope k (stepOf slope w)
+
+-- from w, the walk would end by itself after at most n steps: some k of them lead to a size not greater than the limit
+pub record EndsFrom (slope : Slope) (limit : Float) (n : ℕ) (w : Walk) : Type 0 where
+  pub after : ℕ
+  pub in-time : after ≤ n
+  pub ended : goingOf limit (freeSteps slope after w) ≡ false
+
+abbrev pub EndsWithin : Start → ℕ → Type 0
+EndsWithin s n = EndsFrom (s .slope) (s .limit) n (startWalk (s .z))
+
+unfoldable pub smaller : ℕ → ℕ → ℕ
+smaller a b = cond (leb a b) a b
+
+-- the allowances a and b are equal, or the walk ends by itself within the smaller
+abbrev pub Same : ℕ → ℕ → Start → Type 0
+Same a b s = (a ≡ b) ⊎ EndsWithin s (smaller a b)
+
+-- For a walk and two allowances: the results are equal if and only if the walk is the same with both, and equal step counts already tell it.
+pub record TwoAllowances (s : Start) (a b : ℕ) : Type 0 where
+  pub law : (walkOf s a ≡ walkOf s b) ↔ Same a b s
+  pub steps-tell : walkOf s a .steps ≡ walkOf s b .steps → Same a b s
+
+-- each walk of a list is the same with both
+unfoldable pub AllSame : ℕ → ℕ → List Start → Type 0
+AllSame a b [] = Unit
+AllSame a b (s ∷ ss) = Same a b s × AllSame a b ss

@@ -1,0 +1,58 @@
+-- Document 01, "Jobs and replies": the five slots of an arc: south cap first and second, equator, north cap first and second. Definitions only.
+use lib.Ieee.{Float}
+use Prim.Native.Nat.{ℕ}
+use mathlib.Core.List.{List, [], _∷_}
+use Rattle.newton.specs.declared.walk.Start.{Start}
+use Rattle.special_points_finder.specs.Answers.{slotOf}
+use Rattle.special_points_finder.specs.Plans.{capPlan, slotAt, capSlotsAt, walksIn}
+use Rattle.special_points_finder.specs.Equator.{arcPlanInEqr}
+use Rattle.special_points_finder.specs.Caps.{arcPlanInPc}
+use Rattle.special_points_finder.specs.declared.answer.Answer.the-variants as answer
+use Rattle.special_points_finder.specs.declared.answer.Slot.{Slot}
+use Rattle.special_points_finder.specs.declared.plan.Plan.{Plan}
+use Rattle.special_points_finder.specs.declared.plan.Plan.the-variants.{NoPiece}
+use Rattle.special_points_finder.specs.declared.plan.CapPlan.{CapPlan}
+use Rattle.special_points_finder.specs.declared.split.Piece.{Piece}
+use Rattle.special_points_finder.specs.declared.split.Piece.the-variants.{Nothing, Between}
+use Rattle.special_points_finder.specs.declared.split.Regions.{Regions}
+use Rattle.special_points_finder.specs.declared.split.Split.{Split}
+use Rattle.special_points_finder.specs.declared.split.Split.the-variants.{Into, Failed}
+use Rattle.special_points_finder.specs.declared.arc.Slots.{Slots}
+use Rattle.special_points_finder.specs.declared.arc.ArcAnswer.{ArcAnswer}
+use Rattle.special_points_finder.specs.declared.arc.ArcAnswer.the-variants as arc
+
+unfoldable pub noPiece : Slot
+noPiece = slotOf 0 answer.NoPiece
+
+-- the plans for a piece in a cap, and for one in the equatorial region
+unfoldable pub planInPc : Piece → Float → CapPlan
+planInPc Nothing precision = capPlan NoPiece NoPiece
+planInPc (Between from to) precision = arcPlanInPc from to precision
+
+unfoldable pub planInEqr : Piece → Float → Plan
+planInEqr Nothing precision = NoPiece
+planInEqr (Between from to) precision = arcPlanInEqr from to precision
+
+unfoldable pub slotsAt : ℕ → Regions → Float → Slots
+slotsAt n r precision =
+    record {
+      south = capSlotsAt n (planInPc (r .south) precision);
+      equator = slotAt n (planInEqr (r .equator) precision);
+      north = capSlotsAt n (planInPc (r .north) precision);
+    }
+
+-- what an arc answers with an allowance, once it is split; where it can't be, status 10
+unfoldable pub arcAt : ℕ → Split → Float → ArcAnswer
+arcAt n (Into r) precision = arc.Slots (slotsAt n r precision)
+arcAt n Failed precision = arc.Unsplit
+
+-- the plans of the five slots, in the order of the slots, and the walks that they begin
+unfoldable pub arcPlans : Split → Float → List Plan
+arcPlans (Into r) precision =
+    let s = planInPc (r .south) precision in
+    let n = planInPc (r .north) precision in
+    s .first ∷ s .second ∷ planInEqr (r .equator) precision ∷ n .first ∷ n .second ∷ []
+arcPlans Failed precision = []
+
+unfoldable pub arcWalks : Split → Float → List Start
+arcWalks s precision = walksIn (arcPlans s precision)

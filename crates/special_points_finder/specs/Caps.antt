@@ -1,0 +1,83 @@
+-- The pieces of an arc in a cap: the source's `arc_special_point_in_pc` up to its walks. Definitions only.
+use lib.Ieee.{Float, lt}
+use lib.Dec.{eqb}
+use Prim.Native.Nat.{_%_}
+use mathlib.Core.Bool.{Bool, cond, not}
+use Rattle.angles.specs.Floats.{_⊖_, plusZero, one}
+use Rattle.angles.specs.Constants.{pi}
+use Rattle.coo3d.specs.Vectors.{vect, crossOf, normalizedOf, oppositeOf}
+use Rattle.coo3d.specs.Points.{fromVec3, vectOf}
+use Rattle.coo3d.specs.Quarters.{quarterOf, lonModHalfPi}
+use Rattle.coo3d.specs.declared.vect3.Vect3.{Vect3}
+use Rattle.coo3d.specs.declared.point.Coo3D.{Coo3D}
+use Rattle.newton.specs.Slopes.{haveSameSign}
+use Rattle.special_points_finder.specs.Plans.{capPlan}
+use Rattle.special_points_finder.specs.SameQuarter.{sameQuarterPlan}
+use Rattle.special_points_finder.specs.declared.plan.Plan.{Plan}
+use Rattle.special_points_finder.specs.declared.plan.Plan.the-variants.{NoPiece}
+use Rattle.special_points_finder.specs.declared.plan.CapPlan.{CapPlan}
+
+abbrev pub pointOf : Vect3 → Coo3D
+pointOf v = fromVec3 (v .x) (v .y) (v .z)
+
+-- `intersect_point_pc`: where the plane of normal n meets the arc in the plane of normal normal, on the side of the height z
+unfoldable pub intersectPointPc : Float → Vect3 → Vect3 → Coo3D
+intersectPointPc z normal n =
+    let i = normalizedOf (crossOf normal n) in
+    cond (haveSameSign (i .z) z) (pointOf i) (pointOf (oppositeOf i))
+
+-- the plane at which an odd or an even quarter ends has the normal (0, 1, 0) or (1, 0, 0)
+unfoldable pub quarterEnd : Bool → Vect3
+quarterEnd odd = cond odd (vect plusZero one plusZero) (vect one plusZero plusZero)
+
+unfoldable pub oddQuarter : Float → Bool
+oddQuarter lon = eqb (quarterOf lon % 2) 1
+
+-- from p to the end of its quarter
+unfoldable pub pieceToEnd : Float → Vect3 → Coo3D → Float → Plan
+pieceToEnd z normal p precision =
+    cond (lt plusZero (lonModHalfPi (p .lon)))
+    (sameQuarterPlan p (intersectPointPc z normal (quarterEnd (oddQuarter (p .lon)))) precision)
+    NoPiece
+
+-- the same, if the end has the larger longitude
+unfoldable pub pieceToLargerEnd : Float → Vect3 → Coo3D → Float → Plan
+pieceToLargerEnd z normal p precision =
+    let end = intersectPointPc z normal (quarterEnd (oddQuarter (p .lon))) in
+    cond (lt plusZero (lonModHalfPi (p .lon)))
+    (cond (lt (p .lon) (end .lon)) (sameQuarterPlan p end precision) NoPiece)
+    NoPiece
+
+-- from the start of p's quarter to p, if the start has the smaller longitude
+unfoldable pub pieceFromStart : Float → Vect3 → Coo3D → Float → Plan
+pieceFromStart z normal p precision =
+    let start = intersectPointPc z normal (quarterEnd (not (oddQuarter (p .lon)))) in
+    cond (lt (start .lon) (p .lon)) (sameQuarterPlan start p precision) NoPiece
+
+-- the arc crosses longitude 0
+unfoldable pub planAcrossZero : Coo3D → Coo3D → Float → CapPlan
+planAcrossZero p1 p2 precision =
+    let p2xp1 = normalizedOf (crossOf (vectOf p2) (vectOf p1)) in
+    capPlan
+    (sameQuarterPlan (intersectPointPc (p1 .z) p2xp1 (quarterEnd (not (oddQuarter (p1 .lon))))) p1 precision)
+    (pieceToLargerEnd (p1 .z) p2xp1 p2 precision)
+
+-- it does not
+unfoldable pub planPastZero : Coo3D → Coo3D → Float → CapPlan
+planPastZero p1 p2 precision =
+    let p1xp2 = normalizedOf (crossOf (vectOf p1) (vectOf p2)) in
+    capPlan
+    (pieceToEnd (p1 .z) p1xp2 p1 precision)
+    (pieceFromStart (p1 .z) p1xp2 p2 precision)
+
+-- a same-quarter arc uses the first slot
+unfoldable pub orderedPlanInPc : Coo3D → Coo3D → Float → CapPlan
+orderedPlanInPc p1 p2 precision =
+    cond (eqb (quarterOf (p1 .lon)) (quarterOf (p2 .lon)))
+    (capPlan (sameQuarterPlan p1 p2 precision) NoPiece)
+    (cond (lt pi (p2 .lon ⊖ p1 .lon)) (planAcrossZero p1 p2 precision) (planPastZero p1 p2 precision))
+
+-- the end of the smaller longitude comes first
+unfoldable pub arcPlanInPc : Coo3D → Coo3D → Float → CapPlan
+arcPlanInPc p1 p2 precision =
+    cond (lt (p2 .lon) (p1 .lon)) (orderedPlanInPc p2 p1 precision) (orderedPlanInPc p1 p2 precision)

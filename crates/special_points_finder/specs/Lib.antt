@@ -1,0 +1,11 @@
+pub mod Answers
+pub mod Regions
+pub mod Endings
+pub mod Plans
+pub mod Cones
+pub mod Equator
+pub mod SameQuarter
+pub mod Caps
+pub mod Splits
+pub mod Arcs
+pub mod Allowances

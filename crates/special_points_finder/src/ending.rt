@@ -1,0 +1,98 @@
+// What the height that a walk ends at is taken through.
+
+use super::answer;
+use super::answer::Answer;
+use super::region;
+use angles::float;
+use coo3d::point::Coo3D;
+use coo3d::vect3::Vect3;
+use crossing::great_arc::GreatArc;
+use crossing::parallel;
+ghost use mathlib.Core.Path.{_≡_};
+ghost use Rattle.special_points_finder.specs.Endings.{acceptedEqr, acceptedNpc, eqrArc, pcArc, eqrCone, pcCone, answerAt};
+
+// A piece of an arc in a cap: its ends, and their heights in the first quarter of the north cap.
+pub struct CapArc {
+    pub p1: Vect3,
+    pub p2: Vect3,
+    pub south: bool,
+    pub z1: f64,
+    pub z2: f64,
+}
+
+pub enum Ending {
+    EqrArc(GreatArc),
+    PcArc(CapArc),
+    EqrCone,
+    PcCone { south: bool },
+}
+
+// The height is in the equatorial region and between those of the ends, both included.
+fn accepted_eqr(z1: f64, z: f64, z2: f64) -> bool
+    ensures { λ r. ⌜ r ≡ acceptedEqr z1 z z2 ⌝ }
+{
+    (float::abs(z) < Coo3D::TRANSITION_Z)
+        & (((z1 <= z2) & (z1 <= z) & (z <= z2)) | ((z2 < z1) & (z2 <= z) & (z <= z1)))
+}
+
+fn accepted_npc(z: f64) -> bool
+    ensures { λ r. ⌜ r ≡ acceptedNpc z ⌝ }
+{
+    float::is_finite(z) & (z > Coo3D::TRANSITION_Z)
+}
+
+fn eqr_arc(arc: GreatArc, z: f64) -> Answer
+    ensures { λ r. ⌜ r ≡ eqrArc arc z ⌝ }
+{
+    if accepted_eqr(arc.p1.z, z, arc.p2.z) {
+        answer::crossed(arc.crossing(z))
+    } else {
+        Answer::Rejected
+    }
+}
+
+fn pc_arc(arc: CapArc, z: f64) -> Answer
+    ensures { λ r. ⌜ r ≡ pcArc arc z ⌝ }
+{
+    if accepted_npc(z) & parallel::strictly_between(arc.z1, z, arc.z2) {
+        let height = region::mirrored(arc.south, z);
+        answer::crossed(parallel::intersect_parallel(arc.p1, arc.p2, height))
+    } else {
+        Answer::Rejected
+    }
+}
+
+fn eqr_cone(z: f64) -> Answer
+    ensures { λ r. ⌜ r ≡ eqrCone z ⌝ }
+{
+    if float::abs(z) < Coo3D::TRANSITION_Z {
+        Answer::Height { z }
+    } else {
+        Answer::Rejected
+    }
+}
+
+fn pc_cone(south: bool, z: f64) -> Answer
+    ensures { λ r. ⌜ r ≡ pcCone south z ⌝ }
+{
+    if accepted_npc(z) {
+        Answer::Height {
+            z: region::mirrored(south, z),
+        }
+    } else {
+        Answer::Rejected
+    }
+}
+
+impl Ending {
+    pub fn answer(self, z: f64) -> Answer
+        ensures { λ r. ⌜ r ≡ answerAt self z ⌝ }
+    {
+        match self {
+            Ending::EqrArc(arc) => eqr_arc(arc, z),
+            Ending::PcArc(arc) => pc_arc(arc, z),
+            Ending::EqrCone => eqr_cone(z),
+            Ending::PcCone { south } => pc_cone(south, z),
+        }
+    }
+}
