@@ -56,7 +56,7 @@ const FINDER_EDITS: [Edit; 4] = [
         "let mut n_iter = 0_u8;",
         "let mut n_iter = 0_u8; super::walk_begins();",
     ),
-    edit(4, "n_iter += 1;", "n_iter += 1; super::step_made();"),
+    edit(4, "n_iter += 1;", "n_iter += 1; super::step_made(z_eps);"),
 ];
 
 /// None of these may be left: an angle function of the library's, or an operation that rounds once for two.

@@ -13,6 +13,7 @@ use std::panic;
 
 thread_local! {
     static WALKS: RefCell<Vec<u8>> = const { RefCell::new(Vec::new()) };
+    static SIZES: RefCell<Vec<f64>> = const { RefCell::new(Vec::new()) };
     static WATCHED: Cell<bool> = const { Cell::new(false) };
 }
 
@@ -21,8 +22,9 @@ fn walk_begins() {
     WALKS.with_borrow_mut(|walks| walks.push(0));
 }
 
-/// Called where a walk of the reference has made a step.
-fn step_made() {
+/// Called where a walk of the reference has made a step of this size.
+fn step_made(size: f64) {
+    SIZES.with_borrow_mut(|sizes| sizes.push(size));
     WALKS.with_borrow_mut(|walks| {
         if let Some(steps) = walks.last_mut() {
             *steps += 1;
@@ -47,6 +49,7 @@ pub struct Watched<T> {
 
 pub fn watch<T>(work: impl FnOnce() -> T + panic::UnwindSafe) -> Watched<T> {
     WALKS.with_borrow_mut(Vec::clear);
+    SIZES.with_borrow_mut(Vec::clear);
     WATCHED.set(true);
     let result =
         panic::catch_unwind(work).map_err(|payload| match payload.downcast_ref::<&str>() {
@@ -57,6 +60,11 @@ pub fn watch<T>(work: impl FnOnce() -> T + panic::UnwindSafe) -> Watched<T> {
     WATCHED.set(false);
     let walks = WALKS.with_borrow(Vec::clone);
     Watched { result, walks }
+}
+
+/// The sizes of all steps made under the last `watch`.
+pub fn step_sizes() -> Vec<f64> {
+    SIZES.with_borrow(Vec::clone)
 }
 
 /// From here on a panic under `watch` prints nothing.

@@ -28,6 +28,7 @@ pub fn compare(input: &Arc) -> Case {
     Case {
         found: matches!(&watched.result, Ok(list) if !list.is_empty()),
         panic: watched.result.as_ref().err().copied(),
+        kinds: (numbers.status == 0).then(|| numbers.slots().map(|slot| slot.kind)),
         difference: (!agree).then(|| format!("{numbers:x?}\n  the reference: {watched:x?}")),
     }
 }

@@ -93,6 +93,7 @@ fn case<T: Debug>(
     Case {
         found: matches!(watched.result, Ok(Some(_))),
         panic: watched.result.as_ref().err().copied(),
+        kinds: None,
         difference: (!agree).then(|| format!("{numbers:x?}\n  the reference: {watched:x?}")),
     }
 }

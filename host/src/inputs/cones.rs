@@ -6,21 +6,13 @@ use crate::random::Random;
 use std::f64::consts::{FRAC_PI_2, FRAC_PI_4, SQRT_2};
 
 pub const EQUATORIAL: [Class<Cone>; 3] = [
-    ("as the source advises", |random| {
-        let lat = random.between(-0.8, 0.8);
-        advised(random, lat, 0.8)
-    }),
+    ("as the source advises", advised_in_eqr),
     ("any", any),
     ("boundary values", boundary),
 ];
 
 pub const POLAR: [Class<PolarCone>; 3] = [
-    ("as the source advises", |random| {
-        let lat = random.between(transition_latitude(), FRAC_PI_2);
-        let lat = random.signed(lat);
-        let cone = advised(random, lat, 0.9);
-        polar(random.between(0.0, FRAC_PI_2), random, cone)
-    }),
+    ("as the source advises", advised_in_pc),
     ("any", |random| {
         let cone = any(random);
         polar(random.between(0.0, FRAC_PI_2), random, cone)
@@ -30,6 +22,18 @@ pub const POLAR: [Class<PolarCone>; 3] = [
         polar(boundary_lon(random), random, cone)
     }),
 ];
+
+pub fn advised_in_eqr(random: &mut Random) -> Cone {
+    let lat = random.between(-0.8, 0.8);
+    advised(random, lat, 0.8)
+}
+
+pub fn advised_in_pc(random: &mut Random) -> PolarCone {
+    let lat = random.between(transition_latitude(), FRAC_PI_2);
+    let lat = random.signed(lat);
+    let cone = advised(random, lat, 0.9);
+    polar(random.between(0.0, FRAC_PI_2), random, cone)
+}
 
 /// The starting height that the source calls reasonable: so many radii from the centre.
 fn advised(random: &mut Random, lat: f64, radii: f64) -> Cone {

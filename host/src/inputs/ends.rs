@@ -4,7 +4,7 @@ use super::{Class, Ends, TRANSITION_Z};
 use crate::random::Random;
 use std::f64::consts::{FRAC_PI_2, FRAC_PI_4, PI, TAU};
 
-pub const CLASSES: [Class<Ends>; 20] = [
+pub const CLASSES: [Class<Ends>; 22] = [
     ("uniform", |random| {
         joined(on_sphere(random), on_sphere(random))
     }),
@@ -18,7 +18,7 @@ pub const CLASSES: [Class<Ends>; 20] = [
     }),
     ("about the short-arc limit", about_short_limit),
     ("about a point in the equator", special_in_eqr),
-    ("about a point in a cap", special_in_quarter),
+    ("about a point in a cap", special_in_cap),
     ("about a point at a border", special_at_border),
     ("around the transition", around_transition),
     ("in one cap", in_one_cap),
@@ -27,12 +27,79 @@ pub const CLASSES: [Class<Ends>; 20] = [
     ("on quarters' borders", on_borders),
     ("across quarters' borders", across_borders),
     ("at the poles", at_poles),
+    ("close to the poles", close_to_poles),
     ("equal points", equal_points),
     ("antipodal", antipodal),
     ("equal longitudes", equal_longitudes),
     ("equal latitudes", equal_latitudes),
     ("near-meridian planes", near_meridian),
     ("boundary values", boundary_values),
+    ("kept", |random| random.one_of(&KEPT)),
+];
+
+/// Lost points, panics and examples that are worth a look in every run.
+const KEPT: [Ends; 6] = [
+    // Document 01: the cross product is zero, status 10.
+    [0.0, 0.8, PI, -0.8],
+    // Over longitude 0: the piece before it has a point, and is not looked at.
+    [
+        0.5784377075540217,
+        1.2098245902065654,
+        5.642349515196161,
+        0.853204762679366,
+    ],
+    // Over longitude 0, with no point in the piece that is not looked at.
+    [
+        5.300472554243618,
+        -1.381271999891891,
+        0.27681685882129514,
+        -1.470199322837253,
+    ],
+    // From 3e-7 off the pole: a height that the walk has reached is not between the piece's ends.
+    [
+        2.4787649113079726,
+        -1.5707960128451874,
+        2.628639564916842,
+        1.4219223287738358,
+    ],
+    // An edge of 1.1 degrees with a special point at its end: neither root passes.
+    [
+        1.2842388656527222,
+        -0.2678237116066448,
+        1.2991747463510848,
+        -0.25479556955392063,
+    ],
+    // An edge of 1.6 degrees that starts beside T: neither root passes, status 10.
+    [
+        6.165580374845479,
+        0.7297276562269666,
+        6.183220448695921,
+        0.7059050760776105,
+    ],
+];
+
+/// Longitude and latitude of one end and latitude of the other, as patterns, such that with a longitude of π/2 there the plane's y0 is 1e-14.
+const MERIDIAN_LIMIT: [[u64; 3]; 4] = [
+    [
+        0x3FF9_21FB_5444_2D50,
+        0xBFB9_5948_56A4_3FBE,
+        0x3FD8_CBD1_7E9E_CD22,
+    ],
+    [
+        0x3FF9_21FB_5444_2D38,
+        0x3FDE_B9FA_E482_FAC7,
+        0x3FF1_03F5_BDBA_48BF,
+    ],
+    [
+        0x3FF9_21FB_5444_2D49,
+        0xBFD9_ADFF_E694_A5E3,
+        0x3FF5_DC19_86EC_26A8,
+    ],
+    [
+        0x3FF9_21FB_5444_2D55,
+        0xBFE5_9D86_2569_11BD,
+        0x3FF2_77DD_0456_D3B8,
+    ],
 ];
 
 type Point = [f64; 2];
@@ -138,6 +205,11 @@ fn bearing_of(derivative: f64, lat: f64) -> f64 {
     (derivative * lat.cos().powi(2)).atan()
 }
 
+/// Around a special point of any region.
+pub fn special(random: &mut Random) -> Ends {
+    random.one_of(&[special_in_eqr, special_in_cap, special_at_border])(random)
+}
+
 /// Around a special point in the equatorial region, where that derivative is ±3π/8.
 fn special_in_eqr(random: &mut Random) -> Ends {
     let lat = random.between(-TRANSITION_Z, TRANSITION_Z).asin();
@@ -147,7 +219,7 @@ fn special_in_eqr(random: &mut Random) -> Ends {
 }
 
 /// Around a special point in a cap, where it is half the way in longitude to either border of the quarter, over 1 − |z|.
-fn special_in_cap(random: &mut Random, in_quarter: f64, low: f64, high: f64) -> Ends {
+fn special_in_quarter(random: &mut Random, in_quarter: f64, low: f64, high: f64) -> Ends {
     let lat = cap_lat(random);
     let way = random.one_of(&[in_quarter, in_quarter - FRAC_PI_2]);
     let derivative = (0.5 * way / (1.0 - lat.sin().abs())).copysign(way * lat);
@@ -155,9 +227,9 @@ fn special_in_cap(random: &mut Random, in_quarter: f64, low: f64, high: f64) -> 
     through(random, [lon, lat], bearing_of(derivative, lat), low, high)
 }
 
-fn special_in_quarter(random: &mut Random) -> Ends {
+fn special_in_cap(random: &mut Random) -> Ends {
     let in_quarter = random.between(0.0, FRAC_PI_2);
-    special_in_cap(random, in_quarter, -12.0, -0.3)
+    special_in_quarter(random, in_quarter, -12.0, -0.3)
 }
 
 /// Around a special point in a cap so close to a quarter's border that the arc may cross it.
@@ -165,7 +237,7 @@ fn special_at_border(random: &mut Random) -> Ends {
     let power = random.between(-12.0, -0.5);
     let off = 10f64.powf(power);
     let in_quarter = random.one_of(&[off, FRAC_PI_2 - off]);
-    special_in_cap(random, in_quarter, power - 1.0, power + 2.0)
+    special_in_quarter(random, in_quarter, power - 1.0, power + 2.0)
 }
 
 fn around_transition(random: &mut Random) -> Ends {
@@ -241,6 +313,18 @@ fn at_poles(random: &mut Random) -> Ends {
     joined([any_lon(random), lat1], [any_lon(random), lat2])
 }
 
+/// So close to a pole that the heights of a piece's ends are nearly equal.
+fn close_to_poles(random: &mut Random) -> Ends {
+    let [off1, off2] = [(); 2].map(|()| random.power_of_ten(-9.0, -5.0));
+    let lat1 = random.signed(FRAC_PI_2 - off1);
+    let lat2 = match random.below(3) {
+        0 => (FRAC_PI_2 - off2).copysign(lat1),
+        1 => cap_lat(random),
+        _ => any_lat(random),
+    };
+    joined([any_lon(random), lat1], [any_lon(random), lat2])
+}
+
 fn equal_points(random: &mut Random) -> Ends {
     let point = random.one_of(&[on_sphere, boundary_point])(random);
     joined(point, point)
@@ -282,11 +366,17 @@ pub fn near_meridian(random: &mut Random) -> Ends {
         let start = [lon, any_lat(random)];
         return joined(start, [lon + off, any_lat(random)]);
     }
-    let slope = random.power_of_ten(-3.0, 3.0);
-    let slope = random.signed(slope);
+    let steepness = random.power_of_ten(-3.0, 4.0);
+    let steepness = random.signed(steepness);
     let [lon1, lon2] = [any_lon(random), any_lon(random)];
-    let [lat1, lat2] = [lon1, lon2].map(|lon| (slope * lon.cos()).atan());
+    let [lat1, lat2] = [lon1, lon2].map(|lon| (steepness * lon.cos()).atan());
     joined([lon1, lat1], [lon2, lat2 + off])
+}
+
+/// Where y0 is 1e-14 or next to it.
+pub fn at_meridian_limit(random: &mut Random) -> Ends {
+    let [lon1, lat1, lat2] = random.one_of(&MERIDIAN_LIMIT).map(f64::from_bits);
+    joined([lon1, lat1], [FRAC_PI_2, random.nudged(lat2)])
 }
 
 fn boundary_lon(random: &mut Random) -> f64 {

@@ -5,7 +5,7 @@ use super::{ends, Class, Ends, Parallel, TRANSITION_Z};
 use crate::angles;
 use crate::random::Random;
 
-pub const CLASSES: [Class<Parallel>; 7] = [
+pub const CLASSES: [Class<Parallel>; 8] = [
     ("between the ends", |random| {
         let ends = any_ends(random);
         at(ends, between(random, ends))
@@ -30,6 +30,10 @@ pub const CLASSES: [Class<Parallel>; 7] = [
     }),
     ("near-meridian planes", |random| {
         let ends = ends::near_meridian(random);
+        at(ends, between(random, ends))
+    }),
+    ("at the near-meridian limit", |random| {
+        let ends = ends::at_meridian_limit(random);
         at(ends, between(random, ends))
     }),
 ];
