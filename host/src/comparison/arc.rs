@@ -62,7 +62,8 @@ fn split_fails(input: &Arc) -> bool {
     } else {
         (&p1, &p2)
     };
-    let fails = |z| watch(|| intersect_parallel(low, high, z)).result.is_err();
+    let crossing = |z| watch(|| intersect_parallel(low, high, z)).result;
+    let fails = |z| matches!(crossing(z), Err(Panic::Unreachable));
     [-TRANSITION_Z, TRANSITION_Z].into_iter().any(fails)
 }
 
