@@ -37,23 +37,30 @@ pub const CLASSES: [Class<Ends>; 22] = [
     ("kept", |random| random.one_of(&KEPT)),
 ];
 
-/// Lost points, panics and examples that are worth a look in every run.
-const KEPT: [Ends; 6] = [
+/// Lost points, panics and other arcs that every run looks at.
+const KEPT: [Ends; 7] = [
     // Document 01: the cross product is zero, status 10.
     [0.0, 0.8, PI, -0.8],
-    // Over longitude 0: the piece before it has a point, and is not looked at.
+    // An edge of 13 degrees over longitude 0: the piece before it has a special point, and is not looked at.
     [
-        0.5784377075540217,
-        1.2098245902065654,
-        5.642349515196161,
-        0.853204762679366,
+        5.653564405055805,
+        1.292491918928406,
+        0.3038482837732559,
+        1.4025091765208624,
     ],
-    // Over longitude 0, with no point in the piece that is not looked at.
+    // Over longitude 0 too, but that piece has no special point.
     [
         5.300472554243618,
         -1.381271999891891,
         0.27681685882129514,
         -1.470199322837253,
+    ],
+    // An arc of 132 degrees: the crossings taken, and both points, are not on the arc but on the rest of its circle.
+    [
+        3.454943948368684,
+        -0.7361268371813542,
+        4.954863277491432,
+        1.5400365314636468,
     ],
     // From 3e-7 off the pole: a height that the walk has reached is not between the piece's ends.
     [
@@ -78,7 +85,7 @@ const KEPT: [Ends; 6] = [
     ],
 ];
 
-/// Longitude and latitude of one end and latitude of the other, as patterns, such that with a longitude of π/2 there the plane's y0 is 1e-14.
+/// Longitude and latitude of one end, and the latitude of another with longitude π/2, as patterns: the y0 of their plane is 1e-14.
 const MERIDIAN_LIMIT: [[u64; 3]; 4] = [
     [
         0x3FF9_21FB_5444_2D50,
