@@ -1,13 +1,19 @@
-//! Links the archives that Rattle exports.
+//! Links the archives that Rattle exports, and makes the reference ready to be compiled.
+
+#[path = "build/reference.rs"]
+mod reference;
 
 use std::env;
 use std::path::Path;
 
 fn main() {
     let manifest = env::var("CARGO_MANIFEST_DIR").expect("cargo sets CARGO_MANIFEST_DIR");
-    let archives = Path::new(&manifest).join("../target/staticlib");
+    let repository = Path::new(&manifest).join("..");
+    let archives = repository.join("target/staticlib");
     println!("cargo::rustc-link-search=native={}", archives.display());
     link(&archives, "root");
+    link_if_made(&archives, "finder_calls");
+    reference::prepare(&repository);
 }
 
 fn link(archives: &Path, library: &str) {
@@ -20,4 +26,17 @@ fn link(archives: &Path, library: &str) {
         );
     }
     println!("cargo::rustc-link-lib=static={library}");
+}
+
+/// Links an archive that only some programs need, and sets the condition of its name where it is there.
+fn link_if_made(archives: &Path, library: &str) {
+    println!("cargo::rustc-check-cfg=cfg({library})");
+    if archives.join(format!("lib{library}.a")).is_file() {
+        println!("cargo::rustc-cfg={library}");
+        link(archives, library);
+        // `%` on f64 is the C library's fmod.
+        println!("cargo::rustc-link-lib=m");
+    } else {
+        println!("cargo::rerun-if-changed={}", archives.display());
+    }
 }

@@ -21,4 +21,47 @@ impl Random {
     pub fn below(&mut self, bound: u64) -> u64 {
         ((u128::from(self.next_u64()) * u128::from(bound)) >> 64) as u64
     }
+
+    pub fn flip(&mut self) -> bool {
+        self.below(2) == 1
+    }
+
+    pub fn one_of<T: Copy>(&mut self, choices: &[T]) -> T {
+        choices[self.below(choices.len() as u64) as usize]
+    }
+
+    pub fn between(&mut self, low: f64, high: f64) -> f64 {
+        let fraction = self.below(1 << 53) as f64 / (1u64 << 53) as f64;
+        low + (high - low) * fraction
+    }
+
+    /// Ten to a power between the two given.
+    pub fn power_of_ten(&mut self, low: f64, high: f64) -> f64 {
+        10f64.powf(self.between(low, high))
+    }
+
+    /// `x` or its opposite.
+    pub fn signed(&mut self, x: f64) -> f64 {
+        if self.flip() {
+            -x
+        } else {
+            x
+        }
+    }
+
+    /// `x`, as often as not, or one of the three floats next to it on either side.
+    pub fn nudged(&mut self, x: f64) -> f64 {
+        if self.flip() {
+            return x;
+        }
+        let places = 1 + self.below(3) as i64;
+        moved(x, if self.flip() { places } else { -places })
+    }
+}
+
+/// The float that lies so many places above or below x.
+fn moved(x: f64, places: i64) -> f64 {
+    // From patterns to numbers in the order of the floats, and back: both zeros are 0.
+    let turn = |n: i64| if n < 0 { i64::MIN.wrapping_sub(n) } else { n };
+    f64::from_bits(turn(turn(x.to_bits() as i64) + places) as u64)
 }

@@ -1,0 +1,143 @@
+//! Makes the reference ready to be compiled: reads its source, puts document 01's angle functions in the place of the library's, adds the
+//! count of walks and steps, and writes the result to OUT_DIR. An edit that doesn't find its place as often as it says fails the build.
+
+use std::env;
+use std::fs;
+use std::path::{Path, PathBuf};
+
+const FOLDER: &str = "../shared/docs/src";
+/// Names another folder, seen from the repository's root.
+const VARIABLE: &str = "RENNAGLYPH_REFERENCE";
+
+const LIB: &str = "src--src--lib.rs.txt";
+const COO3D: &str = "src--src--sph_geom--coo3d.rs.txt";
+const FINDER: &str = "src--src--special_points_finder.rs.txt";
+
+/// How the items begin that the other two files use of lib.rs.
+const LIB_ITEMS: [&str; 4] = [
+    "pub const TRANSITION_Z: f64 =",
+    "pub const ONE_OVER_TRANSITION_Z: f64 =",
+    "pub trait Customf64 {",
+    "impl Customf64 for f64 {",
+];
+
+struct Edit {
+    places: usize,
+    from: &'static str,
+    to: &'static str,
+}
+
+const fn edit(places: usize, from: &'static str, to: &'static str) -> Edit {
+    Edit { places, from, to }
+}
+
+const COO3D_EDITS: [Edit; 6] = [
+    edit(1, "sin.atan2(cos)", "crate::angles::atan2(sin, cos)"),
+    edit(1, "y.atan2(x)", "crate::angles::atan2(y, x)"),
+    edit(1, "z.atan2(", "crate::angles::atan2(z, "),
+    edit(2, "f64::atan2(", "crate::angles::atan2("),
+    edit(1, "lon.sin_cos()", "crate::angles::sin_cos(lon)"),
+    edit(1, "lat.sin_cos()", "crate::angles::sin_cos(lat)"),
+];
+
+const FINDER_EDITS: [Edit; 4] = [
+    edit(
+        1,
+        "p1_x_p2_norm.atan2(p1_dot_p2)",
+        "crate::angles::atan2(p1_x_p2_norm, p1_dot_p2)",
+    ),
+    edit(
+        2,
+        "(n / d2.sqrt()).acos()",
+        "crate::angles::acos(n / d2.sqrt())",
+    ),
+    edit(
+        4,
+        "let mut n_iter = 0_u8;",
+        "let mut n_iter = 0_u8; super::walk_begins();",
+    ),
+    edit(4, "n_iter += 1;", "n_iter += 1; super::step_made(z_eps);"),
+];
+
+/// None of these may be left: an angle function of the library's, or an operation that rounds once for two.
+const FORBIDDEN: [&str; 8] = [
+    ".atan2(",
+    "f64::atan2",
+    ".acos(",
+    ".sin_cos(",
+    ".sin(",
+    ".cos(",
+    ".tan(",
+    "mul_add",
+];
+
+/// Writes the reference to OUT_DIR and sets the condition `reference`, if the source can be had.
+pub fn prepare(repository: &Path) {
+    println!("cargo::rustc-check-cfg=cfg(reference)");
+    println!("cargo::rerun-if-env-changed={VARIABLE}");
+    let folder = env::var_os(VARIABLE).unwrap_or_else(|| FOLDER.into());
+    let folder = repository.join(folder);
+    println!("cargo::rerun-if-changed={}", folder.display());
+    if !folder.is_dir() {
+        return;
+    }
+    match edited(&folder) {
+        Ok(text) => {
+            let out = PathBuf::from(env::var_os("OUT_DIR").expect("cargo sets OUT_DIR"));
+            fs::write(out.join("reference.rs"), text).expect("OUT_DIR can be written to");
+            println!("cargo::rustc-cfg=reference");
+        }
+        Err(message) => println!("cargo::error=the reference: {message}"),
+    }
+}
+
+fn edited(folder: &Path) -> Result<String, String> {
+    let lib = read(folder, LIB)?;
+    let coo3d = with_edits(COO3D, read(folder, COO3D)?, &COO3D_EDITS)?;
+    let finder = with_edits(FINDER, read(folder, FINDER)?, &FINDER_EDITS)?;
+    let mut text = String::new();
+    for start in LIB_ITEMS {
+        text += &item(&lib, start)?;
+    }
+    let allowed = "#[allow(dead_code, clippy::all)]\npub mod";
+    text += &format!("{allowed} sph_geom {{\npub mod coo3d {{\n{coo3d}\n}}\n}}\n");
+    text += &format!("{allowed} special_points_finder {{\n{finder}\n}}\n");
+    Ok(text)
+}
+
+fn read(folder: &Path, name: &str) -> Result<String, String> {
+    let path = folder.join(name);
+    println!("cargo::rerun-if-changed={}", path.display());
+    fs::read_to_string(&path).map_err(|error| format!("{}: {error}", path.display()))
+}
+
+fn with_edits(name: &str, mut text: String, edits: &[Edit]) -> Result<String, String> {
+    for Edit { places, from, to } in edits {
+        let found = text.matches(from).count();
+        if found != *places {
+            return Err(format!("{name} has `{from}` {found} times, not {places}"));
+        }
+        text = text.replace(from, to);
+    }
+    match FORBIDDEN.iter().find(|word| text.contains(*word)) {
+        Some(word) => Err(format!("{name} still has `{word}`")),
+        None => Ok(text),
+    }
+}
+
+/// The item that begins with `start`, to the first line that ends it: not indented, and with a semicolon or a brace at its end.
+fn item(lib: &str, start: &str) -> Result<String, String> {
+    let found = lib.lines().filter(|line| line.starts_with(start)).count();
+    if found != 1 {
+        return Err(format!("{LIB} has `{start}` {found} times, not 1"));
+    }
+    let mut text = String::new();
+    for line in lib.lines().skip_while(|line| !line.starts_with(start)) {
+        text += line;
+        text.push('\n');
+        if !line.starts_with(' ') && line.ends_with([';', '}']) {
+            return Ok(text);
+        }
+    }
+    Err(format!("{LIB} has no end of `{start}`"))
+}

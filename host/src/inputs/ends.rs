@@ -1,0 +1,428 @@
+//! The ends of arcs.
+
+use super::{Class, Ends, TRANSITION_Z};
+use crate::random::Random;
+use std::f64::consts::{FRAC_PI_2, FRAC_PI_4, PI, TAU};
+
+pub const CLASSES: [Class<Ends>; 22] = [
+    ("uniform", |random| {
+        joined(on_sphere(random), on_sphere(random))
+    }),
+    ("short", |random| {
+        let start = on_sphere(random);
+        to_distance(random, start, -12.0, -1.0)
+    }),
+    ("camera edges", |random| {
+        let start = on_sphere(random);
+        camera_edge(random, start)
+    }),
+    ("about the short-arc limit", about_short_limit),
+    ("about a point in the equator", special_in_eqr),
+    ("about a point in a cap", special_in_cap),
+    ("about a point at a border", special_at_border),
+    ("around the transition", around_transition),
+    ("in one cap", in_one_cap),
+    ("from cap to cap", from_cap_to_cap),
+    ("across longitude 0", across_longitude_0),
+    ("on quarters' borders", on_borders),
+    ("across quarters' borders", across_borders),
+    ("at the poles", at_poles),
+    ("close to the poles", close_to_poles),
+    ("equal points", equal_points),
+    ("antipodal", antipodal),
+    ("equal longitudes", equal_longitudes),
+    ("equal latitudes", equal_latitudes),
+    ("near-meridian planes", near_meridian),
+    ("boundary values", boundary_values),
+    ("kept", |random| random.one_of(&KEPT)),
+];
+
+/// Lost points, panics and other arcs that every run looks at.
+const KEPT: [Ends; 7] = [
+    // Document 01: the cross product is zero, status 10.
+    [0.0, 0.8, PI, -0.8],
+    // An edge of 13 degrees over longitude 0: the piece before it has a special point, and is not looked at.
+    [
+        5.653564405055805,
+        1.292491918928406,
+        0.3038482837732559,
+        1.4025091765208624,
+    ],
+    // Over longitude 0 too, but that piece has no special point.
+    [
+        5.300472554243618,
+        -1.381271999891891,
+        0.27681685882129514,
+        -1.470199322837253,
+    ],
+    // An arc of 132 degrees: the crossings taken, and both points, are not on the arc but on the rest of its circle.
+    [
+        3.454943948368684,
+        -0.7361268371813542,
+        4.954863277491432,
+        1.5400365314636468,
+    ],
+    // From 3e-7 off the pole: a height that the walk has reached is not between the piece's ends.
+    [
+        2.4787649113079726,
+        -1.5707960128451874,
+        2.628639564916842,
+        1.4219223287738358,
+    ],
+    // An edge of 1.1 degrees with a special point at its end: neither root passes.
+    [
+        1.2842388656527222,
+        -0.2678237116066448,
+        1.2991747463510848,
+        -0.25479556955392063,
+    ],
+    // An edge of 1.6 degrees that starts beside T: neither root passes, status 10.
+    [
+        6.165580374845479,
+        0.7297276562269666,
+        6.183220448695921,
+        0.7059050760776105,
+    ],
+];
+
+/// Longitude and latitude of one end, and the latitude of another with longitude π/2, as patterns: the y0 of their plane is 1e-14.
+const MERIDIAN_LIMIT: [[u64; 3]; 4] = [
+    [
+        0x3FF9_21FB_5444_2D50,
+        0xBFB9_5948_56A4_3FBE,
+        0x3FD8_CBD1_7E9E_CD22,
+    ],
+    [
+        0x3FF9_21FB_5444_2D38,
+        0x3FDE_B9FA_E482_FAC7,
+        0x3FF1_03F5_BDBA_48BF,
+    ],
+    [
+        0x3FF9_21FB_5444_2D49,
+        0xBFD9_ADFF_E694_A5E3,
+        0x3FF5_DC19_86EC_26A8,
+    ],
+    [
+        0x3FF9_21FB_5444_2D55,
+        0xBFE5_9D86_2569_11BD,
+        0x3FF2_77DD_0456_D3B8,
+    ],
+];
+
+type Point = [f64; 2];
+
+/// The two points, brought into range.
+fn joined([lon1, lat1]: Point, [lon2, lat2]: Point) -> Ends {
+    [
+        in_turn(lon1),
+        in_half_turn(lat1),
+        in_turn(lon2),
+        in_half_turn(lat2),
+    ]
+}
+
+/// A longitude in [0, 2π); −0 stays.
+fn in_turn(lon: f64) -> f64 {
+    let lon = if lon < 0.0 { lon + TAU } else { lon };
+    if lon < TAU {
+        lon
+    } else {
+        (lon - TAU).max(0.0) % TAU
+    }
+}
+
+fn in_half_turn(lat: f64) -> f64 {
+    lat.clamp(-FRAC_PI_2, FRAC_PI_2)
+}
+
+pub fn transition_latitude() -> f64 {
+    TRANSITION_Z.asin()
+}
+
+fn any_lon(random: &mut Random) -> f64 {
+    random.between(0.0, TAU)
+}
+
+fn any_lat(random: &mut Random) -> f64 {
+    random.between(-1.0, 1.0).asin()
+}
+
+fn on_sphere(random: &mut Random) -> Point {
+    [any_lon(random), any_lat(random)]
+}
+
+/// A latitude within a cap, north or south.
+fn cap_lat(random: &mut Random) -> f64 {
+    let lat = random.between(TRANSITION_Z, 1.0).asin();
+    random.signed(lat)
+}
+
+/// The point at this distance, in the direction that is so far east of north.
+fn towards([lon, lat]: Point, bearing: f64, distance: f64) -> Point {
+    let (sin_lon, cos_lon) = lon.sin_cos();
+    let (sin_lat, cos_lat) = lat.sin_cos();
+    let (along, ahead) = distance.sin_cos();
+    let (east, north) = (along * bearing.sin(), along * bearing.cos());
+    let out = ahead * cos_lat - north * sin_lat;
+    let (x, y) = (
+        out * cos_lon - east * sin_lon,
+        out * sin_lon + east * cos_lon,
+    );
+    let z = ahead * sin_lat + north * cos_lat;
+    [y.atan2(x), z.atan2(x.hypot(y))]
+}
+
+fn at_distance(random: &mut Random, start: Point, distance: f64) -> Point {
+    towards(start, any_lon(random), distance)
+}
+
+/// From `start` over a distance of ten to a power between the two given.
+fn to_distance(random: &mut Random, start: Point, low: f64, high: f64) -> Ends {
+    let distance = random.power_of_ten(low, high);
+    joined(start, at_distance(random, start, distance))
+}
+
+/// From `start` over at most 20 degrees.
+fn camera_edge(random: &mut Random, start: Point) -> Ends {
+    let distance = random.between(0.0, 20f64.to_radians());
+    joined(start, at_distance(random, start, distance))
+}
+
+/// Of a length about (1/3600) × (180/π), where the short-arc rule ends.
+fn about_short_limit(random: &mut Random) -> Ends {
+    let limit = (1f64 / 3600.0).to_degrees();
+    let off = random.power_of_ten(-17.0, -2.0);
+    let distance = limit + random.signed(off);
+    let start = on_sphere(random);
+    joined(start, at_distance(random, start, distance))
+}
+
+/// Through `point` in this direction, to lengths of ten to a power between the two given on either side.
+fn through(random: &mut Random, point: Point, bearing: f64, low: f64, high: f64) -> Ends {
+    let [back, ahead] = [(); 2].map(|()| random.power_of_ten(low, high));
+    let bearing = if random.flip() { bearing } else { bearing + PI };
+    joined(
+        towards(point, bearing, -back),
+        towards(point, bearing, ahead),
+    )
+}
+
+/// The direction in which an arc has a slope of one on the projection plane, for a derivative of the longitude by the height.
+fn bearing_of(derivative: f64, lat: f64) -> f64 {
+    (derivative * lat.cos().powi(2)).atan()
+}
+
+/// Around a special point of any region.
+pub fn special(random: &mut Random) -> Ends {
+    random.one_of(&[special_in_eqr, special_in_cap, special_at_border])(random)
+}
+
+/// Around a special point in the equatorial region, where that derivative is ±3π/8.
+fn special_in_eqr(random: &mut Random) -> Ends {
+    let lat = random.between(-TRANSITION_Z, TRANSITION_Z).asin();
+    let derivative = random.signed(1.5 * FRAC_PI_4);
+    let point = [any_lon(random), lat];
+    through(random, point, bearing_of(derivative, lat), -12.0, -0.3)
+}
+
+/// Around a special point in a cap, where it is half the way in longitude to either border of the quarter, over 1 − |z|.
+fn special_in_quarter(random: &mut Random, in_quarter: f64, low: f64, high: f64) -> Ends {
+    let lat = cap_lat(random);
+    let way = random.one_of(&[in_quarter, in_quarter - FRAC_PI_2]);
+    let derivative = (0.5 * way / (1.0 - lat.sin().abs())).copysign(way * lat);
+    let lon = random.below(4) as f64 * FRAC_PI_2 + in_quarter;
+    through(random, [lon, lat], bearing_of(derivative, lat), low, high)
+}
+
+fn special_in_cap(random: &mut Random) -> Ends {
+    let in_quarter = random.between(0.0, FRAC_PI_2);
+    special_in_quarter(random, in_quarter, -12.0, -0.3)
+}
+
+/// Around a special point in a cap so close to a quarter's border that the arc may cross it.
+fn special_at_border(random: &mut Random) -> Ends {
+    let power = random.between(-12.0, -0.5);
+    let off = 10f64.powf(power);
+    let in_quarter = random.one_of(&[off, FRAC_PI_2 - off]);
+    special_in_quarter(random, in_quarter, power - 1.0, power + 2.0)
+}
+
+fn around_transition(random: &mut Random) -> Ends {
+    let off = random.power_of_ten(-17.0, -1.0);
+    let lat = transition_latitude() + random.signed(off);
+    let lat = random.nudged(lat);
+    let start = [any_lon(random), random.signed(lat)];
+    to_distance(random, start, -8.0, -0.5)
+}
+
+fn in_one_cap(random: &mut Random) -> Ends {
+    let lat1 = cap_lat(random);
+    let lat2 = cap_lat(random).copysign(lat1);
+    joined([any_lon(random), lat1], [any_lon(random), lat2])
+}
+
+fn from_cap_to_cap(random: &mut Random) -> Ends {
+    let lat1 = cap_lat(random);
+    let lat2 = cap_lat(random).copysign(-lat1);
+    joined([any_lon(random), lat1], [any_lon(random), lat2])
+}
+
+fn across_longitude_0(random: &mut Random) -> Ends {
+    let east = random.power_of_ten(-17.0, 0.2);
+    let west = random.power_of_ten(-15.0, 0.2);
+    let lat1 = random.one_of(&[any_lat, cap_lat])(random);
+    let lat2 = if random.flip() {
+        lat1 + random.between(-0.1, 0.1)
+    } else {
+        any_lat(random)
+    };
+    joined([east, lat1], [TAU - west, lat2])
+}
+
+fn border(random: &mut Random) -> f64 {
+    let border = random.below(5) as f64 * FRAC_PI_2;
+    random.nudged(border)
+}
+
+fn on_borders(random: &mut Random) -> Ends {
+    let lat1 = random.one_of(&[any_lat, cap_lat])(random);
+    let start = [border(random), lat1];
+    match random.below(3) {
+        0 => joined(start, [border(random), any_lat(random)]),
+        1 => joined(start, [border(random), cap_lat(random).copysign(lat1)]),
+        _ => camera_edge(random, start),
+    }
+}
+
+/// Over a border, within a cap, with a length of chance on either side.
+fn across_borders(random: &mut Random) -> Ends {
+    let border = random.below(4) as f64 * FRAC_PI_2;
+    let (east, west) = (
+        random.power_of_ten(-14.0, 0.0),
+        random.power_of_ten(-14.0, 0.0),
+    );
+    let lat1 = cap_lat(random);
+    let off = random.power_of_ten(-15.0, 0.0);
+    joined(
+        [border + east, lat1],
+        [border - west, lat1 + random.signed(off)],
+    )
+}
+
+fn at_poles(random: &mut Random) -> Ends {
+    let off = if random.flip() {
+        0.0
+    } else {
+        random.power_of_ten(-17.0, -1.0)
+    };
+    let lat1 = random.signed(FRAC_PI_2 - off);
+    let lat2 = random.one_of(&[any_lat, cap_lat])(random);
+    joined([any_lon(random), lat1], [any_lon(random), lat2])
+}
+
+/// So close to a pole that the heights of a piece's ends are nearly equal.
+fn close_to_poles(random: &mut Random) -> Ends {
+    let [off1, off2] = [(); 2].map(|()| random.power_of_ten(-9.0, -5.0));
+    let lat1 = random.signed(FRAC_PI_2 - off1);
+    let lat2 = match random.below(3) {
+        0 => (FRAC_PI_2 - off2).copysign(lat1),
+        1 => cap_lat(random),
+        _ => any_lat(random),
+    };
+    joined([any_lon(random), lat1], [any_lon(random), lat2])
+}
+
+fn equal_points(random: &mut Random) -> Ends {
+    let point = random.one_of(&[on_sphere, boundary_point])(random);
+    joined(point, point)
+}
+
+fn antipodal(random: &mut Random) -> Ends {
+    let [lon, lat] = random.one_of(&[on_sphere, boundary_point])(random);
+    let opposite = [if lon < PI { lon + PI } else { lon - PI }, -lat];
+    if random.flip() {
+        joined([lon, lat], opposite)
+    } else {
+        let distance = random.power_of_ten(-16.0, -3.0);
+        joined([lon, lat], at_distance(random, opposite, distance))
+    }
+}
+
+fn equal_longitudes(random: &mut Random) -> Ends {
+    let lon = random.one_of(&[any_lon, border])(random);
+    joined(
+        [lon, any_lat(random)],
+        [random.nudged(lon), any_lat(random)],
+    )
+}
+
+fn equal_latitudes(random: &mut Random) -> Ends {
+    let lat = random.one_of(&[any_lat, cap_lat, boundary_lat])(random);
+    joined(
+        [any_lon(random), lat],
+        [any_lon(random), random.nudged(lat)],
+    )
+}
+
+/// In a plane that holds the y axis, or nearly: about the limit 1e-14 of the near-meridian rule.
+pub fn near_meridian(random: &mut Random) -> Ends {
+    let off = random.power_of_ten(-17.0, -12.0);
+    let off = random.signed(off);
+    if random.flip() {
+        let lon = random.one_of(&[FRAC_PI_2, 3.0 * FRAC_PI_2]);
+        let start = [lon, any_lat(random)];
+        return joined(start, [lon + off, any_lat(random)]);
+    }
+    let steepness = random.power_of_ten(-3.0, 4.0);
+    let steepness = random.signed(steepness);
+    let [lon1, lon2] = [any_lon(random), any_lon(random)];
+    let [lat1, lat2] = [lon1, lon2].map(|lon| (steepness * lon.cos()).atan());
+    joined([lon1, lat1], [lon2, lat2 + off])
+}
+
+/// Where y0 is 1e-14 or next to it.
+pub fn at_meridian_limit(random: &mut Random) -> Ends {
+    let [lon1, lat1, lat2] = random.one_of(&MERIDIAN_LIMIT).map(f64::from_bits);
+    joined([lon1, lat1], [FRAC_PI_2, random.nudged(lat2)])
+}
+
+fn boundary_lon(random: &mut Random) -> f64 {
+    let lon = random.one_of(&[
+        -0.0,
+        0.0,
+        5e-324,
+        1e-300,
+        1e-17,
+        1e-8,
+        1.0,
+        FRAC_PI_4,
+        FRAC_PI_2,
+        PI,
+        3.0 * FRAC_PI_2,
+        TAU,
+    ]);
+    let nudged = random.nudged(lon);
+    if nudged < TAU {
+        nudged
+    } else {
+        TAU - 1e-15
+    }
+}
+
+fn boundary_lat(random: &mut Random) -> f64 {
+    let lats = [0.0, 5e-324, 1e-300, 1e-17, 1e-8, FRAC_PI_4, 1.0, FRAC_PI_2];
+    let lat = match random.below(4) {
+        0 => transition_latitude(),
+        _ => random.one_of(&lats),
+    };
+    let nudged = random.nudged(lat);
+    random.signed(nudged)
+}
+
+fn boundary_point(random: &mut Random) -> Point {
+    [boundary_lon(random), boundary_lat(random)]
+}
+
+fn boundary_values(random: &mut Random) -> Ends {
+    joined(boundary_point(random), boundary_point(random))
+}

@@ -1,0 +1,59 @@
+//! Arcs and the heights at which they are crossed.
+
+use super::cones::boundary_height;
+use super::{ends, Class, Ends, Parallel, TRANSITION_Z};
+use crate::angles;
+use crate::random::Random;
+
+pub const CLASSES: [Class<Parallel>; 8] = [
+    ("between the ends", |random| {
+        let ends = any_ends(random);
+        at(ends, between(random, ends))
+    }),
+    ("at an end", |random| {
+        let ends = any_ends(random);
+        at(ends, random.one_of(&heights(ends)))
+    }),
+    ("next to an end", |random| {
+        let ends = any_ends(random);
+        let height = random.one_of(&heights(ends));
+        at(ends, random.nudged(height))
+    }),
+    ("at the transition", |random| {
+        at(any_ends(random), random.signed(TRANSITION_Z))
+    }),
+    ("boundary heights", |random| {
+        at(any_ends(random), boundary_height(random))
+    }),
+    ("any height", |random| {
+        at(any_ends(random), random.between(-1.0, 1.0))
+    }),
+    ("near-meridian planes", |random| {
+        let ends = ends::near_meridian(random);
+        at(ends, between(random, ends))
+    }),
+    ("at the near-meridian limit", |random| {
+        let ends = ends::at_meridian_limit(random);
+        at(ends, between(random, ends))
+    }),
+];
+
+fn any_ends(random: &mut Random) -> Ends {
+    let (_, draw) = random.one_of(&ends::CLASSES);
+    draw(random)
+}
+
+/// The heights of both ends, as the finder works them out.
+fn heights([_, lat1, _, lat2]: Ends) -> [f64; 2] {
+    [lat1, lat2].map(|lat| angles::sin_cos(lat).0)
+}
+
+fn between(random: &mut Random, ends: Ends) -> f64 {
+    let [z1, z2] = heights(ends);
+    random.between(z1, z2)
+}
+
+fn at(ends: Ends, z: f64) -> Parallel {
+    let z = z.clamp(-1.0, 1.0);
+    Parallel { ends, z }
+}
