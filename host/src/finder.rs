@@ -12,15 +12,21 @@ pub struct SlotNumbers {
     pub second: u64,
 }
 
+/// The two slots of a cap.
+#[repr(C)]
+#[derive(Clone, Copy, Debug)]
+pub struct CapNumbers {
+    pub first: SlotNumbers,
+    pub second: SlotNumbers,
+}
+
 #[repr(C)]
 #[derive(Clone, Copy, Debug)]
 pub struct ArcNumbers {
     pub status: u8,
-    pub south_first: SlotNumbers,
-    pub south_second: SlotNumbers,
+    pub south: CapNumbers,
     pub equator: SlotNumbers,
-    pub north_first: SlotNumbers,
-    pub north_second: SlotNumbers,
+    pub north: CapNumbers,
 }
 
 unsafe extern "C" {
@@ -63,8 +69,8 @@ impl ArcNumbers {
     /// The two slots of the south cap, and of the north.
     pub fn caps(&self) -> [[SlotNumbers; 2]; 2] {
         [
-            [self.south_first, self.south_second],
-            [self.north_first, self.north_second],
+            [self.south.first, self.south.second],
+            [self.north.first, self.north.second],
         ]
     }
 }

@@ -10,17 +10,20 @@ use Rattle.newton.specs.declared.slope.Terms.{Terms}
 use Rattle.newton.specs.declared.slope.Slope.{Slope}
 use Rattle.newton.specs.declared.slope.Slope.the-variants.{Equatorial, Polar}
 
+-- w0 is 1 − z0²
 unfoldable pub coneOf : Float → Float → Cone
 coneOf a b = record { z0 = a; w0 = one ⊖ a ⊗ a; r = b }
 
--- what slope and ratio of either region share
+-- what slope and ratio of either region share, in the source's names
 unfoldable pub termsOf : Cone → Float → Terms
 termsOf cone z =
-    let a = one ⊖ z ⊗ z in
-    let b = cone .r ⊖ z ⊗ cone .z0 in
-    let c = z ⊘ a ⊗ b in
-    let s = rootOf (cone .w0 ⊗ a ⊖ b ⊗ b) in
-    record { w2 = a; q = z ⊘ a; n = b; d2 = cone .w0 ⊗ a; sqrt = s; qn = c; dalphadz = (cone .z0 ⊖ c) ⊘ s }
+    let w2 = one ⊖ z ⊗ z in
+    let q = z ⊘ w2 in
+    let n = cone .r ⊖ z ⊗ cone .z0 in
+    let d2 = cone .w0 ⊗ w2 in
+    let sqrt = rootOf (d2 ⊖ n ⊗ n) in
+    let qn = q ⊗ n in
+    record { w2 = w2; q = q; n = n; d2 = d2; sqrt = sqrt; qn = qn; dalphadz = (cone .z0 ⊖ qn) ⊘ sqrt }
 
 -- the second derivative of the longitude, times sqrt
 unfoldable pub secondOf : Terms → Float → Float

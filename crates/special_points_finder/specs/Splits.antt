@@ -1,11 +1,12 @@
 -- The split of an arc at −T and T, before any walk: the cases of the source's `arc_special_points`. Definitions only.
-use lib.Ieee.{Float, neg, lt, le}
-use mathlib.Core.Bool.{Bool, cond, not, _&&_}
+use lib.Ieee.{Float, neg, lt, le, ne}
+use mathlib.Core.Path.{_≡_}
+use mathlib.Core.Bool.{Bool, true, false, cond, not, _&&_}
 use Rattle.angles.specs.Constants.{transitionZ}
 use Rattle.coo3d.specs.Points.{vectOf}
 use Rattle.coo3d.specs.declared.point.Coo3D.{Coo3D}
 use Rattle.crossing.specs.GreatArcs.{greatArc}
-use Rattle.crossing.specs.Parallels.{ruleOf, crossingBy}
+use Rattle.crossing.specs.Parallels.{strictlyBetween, ruleOf, crossingBy}
 use Rattle.crossing.specs.declared.great_arc.GreatArc.{GreatArc}
 use Rattle.crossing.specs.declared.parallel.Rule.{Rule}
 use Rattle.crossing.specs.declared.parallel.Crossing.{Crossing}
@@ -18,8 +19,8 @@ use Rattle.special_points_finder.specs.declared.split.Cut.the-variants a
 use Rattle.special_points_finder.specs.declared.split.Split.{Split}
 use Rattle.special_points_finder.specs.declared.split.Split.the-variants.{Into, Failed}
 
-abbrev pub regions : Piece → Piece → Piece → Split
-regions a b c = Into (record { south = a; equator = b; north = c })
+unfoldable pub splitInto : Piece → Piece → Piece → Split
+splitInto a b c = Into (record { south = a; equator = b; north = c })
 
 -- where an arc is cut: at the crossing, or it cannot be split
 unfoldable pub cutOf : Crossing → Cut
@@ -32,8 +33,8 @@ cutBy needed arc rule z = cond needed (cutOf (crossingBy arc rule z)) cut.Uncut
 
 -- from a point of the equatorial region up to p2, with the piece in the south
 unfoldable pub splitFrom : Piece → Coo3D → Cut → Coo3D → Split
-splitFrom south from cut.Uncut p2 = regions south (Between from p2) Nothing
-splitFrom south from (cut.At v) p2 = regions south (Between from v) (Between v p2)
+splitFrom south from cut.Uncut p2 = splitInto south (Between from p2) Nothing
+splitFrom south from (cut.At v) p2 = splitInto south (Between from v) (Between v p2)
 splitFrom south from cut.Failed p2 = Failed
 
 unfoldable pub splitAtCuts : Coo3D → Cut → Cut → Coo3D → Split
@@ -41,22 +42,45 @@ splitAtCuts p1 cut.Uncut upper p2 = splitFrom Nothing p1 upper p2
 splitAtCuts p1 (cut.At v) upper p2 = splitFrom (Between p1 v) v upper p2
 splitAtCuts p1 cut.Failed upper p2 = Failed
 
--- an arc of several regions: cut at −T where p1 lies below it, and at T unless p2 lies at or below it
+-- an arc of several regions is cut at −T where p1 lies below it, and at T unless p2 lies at or below it
+abbrev pub fromSouth : Coo3D → Bool
+fromSouth p1 = lt (p1 .z) (neg transitionZ)
+
+abbrev pub toNorth : Coo3D → Coo3D → Bool
+toNorth p1 p2 = not (fromSouth p1 && le (p2 .z) transitionZ)
+
 unfoldable pub splitAtTransitions : Coo3D → Coo3D → Split
 splitAtTransitions p1 p2 =
     let arc = greatArc (vectOf p1) (vectOf p2) in
-    let fromSouth = lt (p1 .z) (neg transitionZ) in
-    let toNorth = not (fromSouth && le (p2 .z) transitionZ) in
-    splitAtCuts p1 (cutBy fromSouth arc (ruleOf arc) (neg transitionZ)) (cutBy toNorth arc (ruleOf arc) transitionZ) p2
+    let lower = cutBy (fromSouth p1) arc (ruleOf arc) (neg transitionZ) in
+    let upper = cutBy (toNorth p1 p2) arc (ruleOf arc) transitionZ in
+    splitAtCuts p1 lower upper p2
 
 -- one region only, or several
+abbrev pub inNorth : Coo3D → Bool
+inNorth p1 = le transitionZ (p1 .z)
+
+abbrev pub inSouth : Coo3D → Bool
+inSouth p2 = le (p2 .z) (neg transitionZ)
+
+abbrev pub inEquator : Coo3D → Coo3D → Bool
+inEquator p1 p2 = le (neg transitionZ) (p1 .z) && le (p2 .z) transitionZ
+
 unfoldable pub splitOrdered : Coo3D → Coo3D → Split
 splitOrdered p1 p2 =
-    cond (le transitionZ (p1 .z)) (regions Nothing Nothing (Between p1 p2))
-    (cond (le (p2 .z) (neg transitionZ)) (regions (Between p1 p2) Nothing Nothing)
-    (cond (le (neg transitionZ) (p1 .z) && le (p2 .z) transitionZ) (regions Nothing (Between p1 p2) Nothing)
+    cond (inNorth p1) (splitInto Nothing Nothing (Between p1 p2))
+    (cond (inSouth p2) (splitInto (Between p1 p2) Nothing Nothing)
+    (cond (inEquator p1 p2) (splitInto Nothing (Between p1 p2) Nothing)
     (splitAtTransitions p1 p2)))
 
 -- the lower end comes first
 unfoldable pub splitOf : Coo3D → Coo3D → Split
 splitOf p1 p2 = cond (lt (p2 .z) (p1 .z)) (splitOrdered p2 p1) (splitOrdered p1 p2)
+
+-- A height that is a number, of an arc of several regions: no crossing that has to split it is of kind 4. `proofs/Splits.antt` proves it.
+abbrev pub isNumber : Float → Type 0
+isNumber z = ne z z ≡ false
+
+pub record NoKind4 (p1 p2 : Coo3D) : Type 0 where
+  pub lower : fromSouth p1 ≡ true → strictlyBetween (p1 .z) (neg transitionZ) (p2 .z) ≡ true
+  pub upper : toNorth p1 p2 ≡ true → strictlyBetween (p1 .z) transitionZ (p2 .z) ≡ true

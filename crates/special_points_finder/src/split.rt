@@ -5,7 +5,7 @@ use crossing::great_arc::GreatArc;
 use crossing::parallel::Crossing;
 use crossing::parallel::Rule;
 ghost use mathlib.Core.Path.{_≡_};
-ghost use Rattle.special_points_finder.specs.Splits.{cutOf, cutBy, splitFrom, splitAtCuts, splitAtTransitions, splitOrdered, splitOf};
+ghost use Rattle.special_points_finder.specs.Splits.{cutOf, cutBy, splitInto, splitFrom, splitAtCuts, splitAtTransitions, splitOrdered, splitOf};
 
 // A piece of the arc in one region, from its lower end to its upper.
 pub enum Piece {
@@ -51,21 +51,27 @@ fn cut_by(needed: bool, arc: GreatArc, rule: Rule, z: f64) -> Cut
     }
 }
 
+fn split_into(south: Piece, equator: Piece, north: Piece) -> Split
+    ensures { λ r. ⌜ r ≡ splitInto south equator north ⌝ }
+{
+    Split::Into(Regions {
+        south,
+        equator,
+        north,
+    })
+}
+
 // The pieces from a point of the equatorial region up to p2, beside the one in the south.
 fn split_from(south: Piece, from: Coo3D, upper: Cut, p2: Coo3D) -> Split
     ensures { λ r. ⌜ r ≡ splitFrom south from upper p2 ⌝ }
 {
     match upper {
-        Cut::Uncut => Split::Into(Regions {
+        Cut::Uncut => split_into(south, Piece::Between { from, to: p2 }, Piece::Nothing),
+        Cut::At(v) => split_into(
             south,
-            equator: Piece::Between { from, to: p2 },
-            north: Piece::Nothing,
-        }),
-        Cut::At(v) => Split::Into(Regions {
-            south,
-            equator: Piece::Between { from, to: v },
-            north: Piece::Between { from: v, to: p2 },
-        }),
+            Piece::Between { from, to: v },
+            Piece::Between { from: v, to: p2 },
+        ),
         Cut::Failed => Split::Failed,
     }
 }
@@ -98,25 +104,13 @@ fn split_ordered(p1: Coo3D, p2: Coo3D) -> Split
 {
     let all = Piece::Between { from: p1, to: p2 };
     if Coo3D::TRANSITION_Z <= p1.z {
-        return Split::Into(Regions {
-            south: Piece::Nothing,
-            equator: Piece::Nothing,
-            north: all,
-        });
+        return split_into(Piece::Nothing, Piece::Nothing, all);
     }
     if p2.z <= -Coo3D::TRANSITION_Z {
-        return Split::Into(Regions {
-            south: all,
-            equator: Piece::Nothing,
-            north: Piece::Nothing,
-        });
+        return split_into(all, Piece::Nothing, Piece::Nothing);
     }
     if (-Coo3D::TRANSITION_Z <= p1.z) & (p2.z <= Coo3D::TRANSITION_Z) {
-        return Split::Into(Regions {
-            south: Piece::Nothing,
-            equator: all,
-            north: Piece::Nothing,
-        });
+        return split_into(Piece::Nothing, all, Piece::Nothing);
     }
     split_at_transitions(p1, p2)
 }

@@ -55,7 +55,7 @@ const KEPT: [Ends; 7] = [
         0.27681685882129514,
         -1.470199322837253,
     ],
-    // An arc of 132 degrees: the crossings taken, and both points, are not on the arc but on the rest of its circle.
+    // An arc of 132 degrees: its point in the south cap is not on the arc but on the rest of its circle.
     [
         3.454943948368684,
         -0.7361268371813542,
