@@ -1,5 +1,6 @@
-//! Makes the reference ready to be compiled: reads its source, puts document 01's angle functions in the place of the library's, adds the
-//! count of walks and steps, and writes the result to OUT_DIR. An edit that doesn't find its place as often as it says fails the build.
+//! Makes the reference ready to be compiled: reads its source, puts document 01's angle functions in the place of the library's, adds calls
+//! that tell its work on each slot, and writes the result to OUT_DIR. An edit that doesn't find its place as often as it says fails the
+//! build.
 
 use std::env;
 use std::fs;
@@ -40,7 +41,7 @@ const COO3D_EDITS: [Edit; 6] = [
     edit(1, "lat.sin_cos()", "crate::angles::sin_cos(lat)"),
 ];
 
-const FINDER_EDITS: [Edit; 4] = [
+const FINDER_EDITS: [Edit; 12] = [
     edit(
         1,
         "p1_x_p2_norm.atan2(p1_dot_p2)",
@@ -51,12 +52,48 @@ const FINDER_EDITS: [Edit; 4] = [
         "(n / d2.sqrt()).acos()",
         "crate::angles::acos(n / d2.sqrt())",
     ),
+    // From here on: calls of src/reference.rs. They change nothing of what is worked out.
     edit(
         4,
         "let mut n_iter = 0_u8;",
         "let mut n_iter = 0_u8; super::walk_begins();",
     ),
     edit(4, "n_iter += 1;", "n_iter += 1; super::step_made(z_eps);"),
+    // The first line of arc_special_point_in_eqr.
+    edit(
+        1,
+        "let cone_center = cross_product(p1, p2).normalized();",
+        "super::equator_begins(); let cone_center = cross_product(p1, p2).normalized();",
+    ),
+    edit(
+        1,
+        "intersect_parallel(p1, p2, z).map(|v| v.lonlat())",
+        "super::crossed(intersect_parallel(p1, p2, z).map(|v| v.lonlat()))",
+    ),
+    // The first line of arc_special_point_in_pc.
+    edit(
+        1,
+        "// Ensure p1.lon() < p2.lon()",
+        "super::cap_begins(p1.z());",
+    ),
+    edit(1, "// Cross lon = 0", "super::second_comes_first();"),
+    edit(
+        2,
+        "res_z1 = arc_special_point_in_pc_same_quarter(",
+        "super::piece_begins(super::FIRST); res_z1 = arc_special_point_in_pc_same_quarter(",
+    ),
+    edit(
+        2,
+        "res_z2 = arc_special_point_in_pc_same_quarter(",
+        "super::piece_begins(super::SECOND); res_z2 = arc_special_point_in_pc_same_quarter(",
+    ),
+    // With one quarter only, the second slot is known to have no piece before the first has one.
+    edit(
+        1,
+        "// Same quarter",
+        "super::second_comes_first(); super::piece_begins(super::FIRST);",
+    ),
+    edit(2, "Some(v.lonlat())", "super::crossed(Some(v.lonlat()))"),
 ];
 
 /// None of these may be left: an angle function of the library's, or an operation that rounds once for two.
@@ -75,10 +112,17 @@ const FORBIDDEN: [&str; 8] = [
 pub fn prepare(repository: &Path) {
     println!("cargo::rustc-check-cfg=cfg(reference)");
     println!("cargo::rerun-if-env-changed={VARIABLE}");
-    let folder = env::var_os(VARIABLE).unwrap_or_else(|| FOLDER.into());
-    let folder = repository.join(folder);
+    let named = env::var_os(VARIABLE);
+    let folder = repository.join(named.as_deref().unwrap_or(FOLDER.as_ref()));
     println!("cargo::rerun-if-changed={}", folder.display());
     if !folder.is_dir() {
+        // Only a folder that nobody has named may be missing.
+        if named.is_some() {
+            println!(
+                "cargo::error={VARIABLE} names no folder: {}",
+                folder.display()
+            );
+        }
         return;
     }
     match edited(&folder) {

@@ -2,29 +2,25 @@
 
 mod arc;
 mod others;
+mod outcomes;
 
 use crate::inputs::{self, cones, ends, parallels, Settings};
 use crate::random::Random;
 use crate::reference::{self, Panic};
+use outcomes::{Outcome, Outcomes};
 use std::fmt::Display;
 
 const SEED: u64 = 0x4669_6E64;
 const MOST_SHOWN: u64 = 10;
 const AT_A_STEP: &str = "precision at a step";
-const SLOTS: [&str; 5] = [
-    "south cap, first",
-    "south cap, second",
-    "equator",
-    "north cap, first",
-    "north cap, second",
-];
+/// From so many inputs on, everything that the classes are made for must come about.
+const LONG_RUN: u64 = 100_000;
 
 /// How one input came out.
 struct Case {
     found: bool,
     panic: Option<Panic>,
-    /// The kinds of an arc's slots, where it has status 0.
-    kinds: Option<[u8; 5]>,
+    outcome: Outcome,
     /// Both answers, where they differ.
     difference: Option<String>,
 }
@@ -69,8 +65,7 @@ struct Comparison {
     /// How many inputs of each class.
     each: u64,
     total: Tally,
-    /// For each slot of an arc, how many there were of each kind.
-    slots: [[u64; 6]; 5],
+    outcomes: Outcomes,
 }
 
 impl Comparison {
@@ -86,7 +81,7 @@ impl Comparison {
             let case = compare(&input);
             tally.count(&case);
             self.total.count(&case);
-            self.count_slots(case.kinds);
+            self.outcomes.count(&case.outcome);
             if let Some(difference) = case.difference {
                 if self.total.differ <= MOST_SHOWN {
                     println!("{name}: {input}\n{difference}");
@@ -143,31 +138,31 @@ impl Comparison {
         self.class(format!("polar cone, {AT_A_STEP}"), draw, others::polar_cone);
     }
 
-    fn count_slots(&mut self, kinds: Option<[u8; 5]>) {
-        for (slot, kind) in self.slots.iter_mut().zip(kinds.into_iter().flatten()) {
-            if let Some(count) = slot.get_mut(usize::from(kind)) {
-                *count += 1;
-            }
+    fn verdict(&self) -> bool {
+        let Tally {
+            compared, differ, ..
+        } = self.total;
+        println!("finder: {compared} inputs compared, {differ} differ");
+        let missing = if compared < LONG_RUN {
+            Vec::new()
+        } else {
+            self.outcomes.missing()
+        };
+        for outcome in &missing {
+            println!("finder: FAILED, no input gave {outcome}");
         }
-    }
-
-    fn print_slots(&self) {
-        let kinds = [0, 1, 2, 3, 4, 5].map(|kind| format!("kind {kind}"));
-        print_row("slots of arcs with status 0", kinds);
-        for (name, counts) in SLOTS.iter().zip(self.slots) {
-            print_row(name, counts);
-        }
+        differ == 0 && missing.is_empty()
     }
 }
 
-/// Compares so many inputs, or a few more, the same number of each class, and says whether all agree.
+/// Compares so many inputs, or a few more, the same number of each class, and says whether all is well.
 pub fn run(count: u64) -> bool {
     reference::silence_watched_panics();
     let mut comparison = Comparison {
         random: Random::new(SEED),
         each: count.div_ceil(classes()),
         total: Tally::default(),
-        slots: [[0; 6]; 5],
+        outcomes: Outcomes::default(),
     };
     print_row(
         "",
@@ -179,12 +174,8 @@ pub fn run(count: u64) -> bool {
         comparison.class(format!("parallel, {name}"), draw, others::parallel);
     }
     comparison.total.print("all");
-    comparison.print_slots();
-    let Tally {
-        compared, differ, ..
-    } = comparison.total;
-    println!("finder: {compared} inputs compared, {differ} differ");
-    differ == 0
+    comparison.outcomes.print();
+    comparison.verdict()
 }
 
 /// The input with a precision that is the size of one of its steps: a walk ends at a size equal to its limit.

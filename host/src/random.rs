@@ -1,4 +1,5 @@
-//! Splitmix64: the same seed gives the same numbers in every run.
+//! Splitmix64: the same seed gives the same u64s in every run. What the inputs make of them with the library's powf, asin and so on may
+//! differ between machines.
 
 pub struct Random {
     state: u64,

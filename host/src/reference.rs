@@ -8,28 +8,108 @@ include!(concat!(env!("OUT_DIR"), "/reference.rs"));
 pub use special_points_finder::*;
 pub use sph_geom::coo3d::*;
 
+use crate::pattern;
 use std::cell::{Cell, RefCell};
 use std::panic;
 
+/// The first slot of each region.
+const SOUTH: usize = 0;
+pub const EQUATOR: usize = 2;
+const NORTH: usize = 3;
+/// A piece's place in its region.
+const FIRST: usize = 0;
+const SECOND: usize = 1;
+
+/// How far the reference has come with a slot, as document 01's kinds: 0 no piece, 1 a piece, 2 a walk, 3 a point, 4 no crossing. A crossing
+/// at which it panics leaves a 2.
+#[derive(Clone, Copy, Debug)]
+pub struct Slot {
+    pub kind: u8,
+    pub steps: u8,
+    /// Longitude and latitude, as patterns.
+    pub point: [u64; 2],
+}
+
+/// The reference's work on the five slots of an arc. A cone's walk is told as the first slot's.
+#[derive(Clone, Copy, Debug)]
+pub struct Work {
+    pub slots: [Slot; 5],
+    /// The slots in the order in which they are worked out.
+    pub order: [usize; 5],
+    /// The slot that was worked on last.
+    pub at: usize,
+    /// The first slot of the region.
+    region: usize,
+}
+
+const NO_WORK: Work = Work {
+    slots: [Slot {
+        kind: 0,
+        steps: 0,
+        point: [0; 2],
+    }; 5],
+    order: [0, 1, 2, 3, 4],
+    at: 0,
+    region: 0,
+};
+
 thread_local! {
-    static WALKS: RefCell<Vec<u8>> = const { RefCell::new(Vec::new()) };
+    static WORK: Cell<Work> = const { Cell::new(NO_WORK) };
     static SIZES: RefCell<Vec<f64>> = const { RefCell::new(Vec::new()) };
     static WATCHED: Cell<bool> = const { Cell::new(false) };
 }
 
-/// Called where a walk of the reference begins.
-fn walk_begins() {
-    WALKS.with_borrow_mut(|walks| walks.push(0));
+fn note(change: impl FnOnce(&mut Work)) {
+    let mut work = WORK.get();
+    change(&mut work);
+    WORK.set(work);
 }
 
-/// Called where a walk of the reference has made a step of this size.
+fn note_slot(change: impl FnOnce(&mut Slot)) {
+    note(|work| change(&mut work.slots[work.at]));
+}
+
+/// Called where the reference begins with a cap, with the height of one end there.
+fn cap_begins(z: f64) {
+    note(|work| work.region = if z < 0.0 { SOUTH } else { NORTH });
+}
+
+/// Called where it works out the cap's second slot before the first.
+fn second_comes_first() {
+    note(|work| work.order.swap(work.region, work.region + 1));
+}
+
+/// Called where it begins with a piece of the region.
+fn piece_begins(place: usize) {
+    note(|work| work.at = work.region + place);
+    note_slot(|slot| slot.kind = 1);
+}
+
+fn equator_begins() {
+    note(|work| work.region = EQUATOR);
+    piece_begins(FIRST);
+}
+
+fn walk_begins() {
+    note_slot(|slot| slot.kind = 2);
+}
+
+/// Called where a walk has made a step of this size.
 fn step_made(size: f64) {
     SIZES.with_borrow_mut(|sizes| sizes.push(size));
-    WALKS.with_borrow_mut(|walks| {
-        if let Some(steps) = walks.last_mut() {
-            *steps += 1;
+    note_slot(|slot| slot.steps += 1);
+}
+
+/// Called with the piece's crossing at the height that the walk has reached, which it gives back.
+fn crossed(crossing: Option<LonLat>) -> Option<LonLat> {
+    note_slot(|slot| match &crossing {
+        Some(point) => {
+            slot.kind = 3;
+            slot.point = [point.lon, point.lat].map(pattern);
         }
+        None => slot.kind = 4,
     });
+    crossing
 }
 
 /// Why the reference gave no answer.
@@ -40,15 +120,15 @@ pub enum Panic {
     Other,
 }
 
-/// What the reference gave, and how many steps it made in each walk that it began, in their order.
-#[derive(Debug, PartialEq)]
+/// What the reference gave, and how it worked.
+#[derive(Debug)]
 pub struct Watched<T> {
     pub result: Result<T, Panic>,
-    pub walks: Vec<u8>,
+    pub work: Work,
 }
 
 pub fn watch<T>(work: impl FnOnce() -> T + panic::UnwindSafe) -> Watched<T> {
-    WALKS.with_borrow_mut(Vec::clear);
+    WORK.set(NO_WORK);
     SIZES.with_borrow_mut(Vec::clear);
     WATCHED.set(true);
     let result =
@@ -58,8 +138,8 @@ pub fn watch<T>(work: impl FnOnce() -> T + panic::UnwindSafe) -> Watched<T> {
             _ => Panic::Other,
         });
     WATCHED.set(false);
-    let walks = WALKS.with_borrow(Vec::clone);
-    Watched { result, walks }
+    let work = WORK.get();
+    Watched { result, work }
 }
 
 /// The sizes of all steps made under the last `watch`.

@@ -1,6 +1,7 @@
 //! Compares the finder with the reference, bit for bit: arcs, cones and crossings with a parallel.
 //!
-//! `compare_finder [count]`, where `count` is the number of inputs.
+//! `compare_finder [count]`, where `count` is the number of inputs. Fails if an answer differs, or if 100,000 inputs or more don't bring
+//! about everything that they are made for.
 
 use std::env;
 use std::process::ExitCode;
@@ -13,8 +14,12 @@ fn input_count() -> Result<u64, String> {
         [] => Ok(DEFAULT_COUNT),
         [count] => {
             let count = count.to_string_lossy();
-            let parsed = count.parse();
-            parsed.map_err(|_| format!("`{count}` is not a number of inputs"))
+            match count.parse() {
+                // A run on nothing would always pass.
+                Ok(0) => Err("0 inputs: there is nothing to compare".to_string()),
+                Ok(parsed) => Ok(parsed),
+                Err(_) => Err(format!("`{count}` is not a number of inputs")),
+            }
         }
         _ => Err("takes one argument, the number of inputs".to_string()),
     }

@@ -3,32 +3,37 @@
 //! Document 01: "The Rust's list is the slots of kind 3 in order, for each cap only the first of two. It panics at status 10, kind 5, and
 //! kind 4 in a cap; elsewhere kinds 0, 1, 2, 4 are its None."
 
+use super::outcomes::Outcome;
 use super::Case;
 use crate::finder::{self, ArcNumbers, SlotNumbers};
 use crate::inputs::{Arc, TRANSITION_Z};
 use crate::pattern;
 use crate::reference::{
-    arc_special_points, intersect_parallel, watch, Coo3D, Panic, Vec3, Watched,
+    arc_special_points, intersect_parallel, watch, Coo3D, Panic, Vec3, Watched, Work, EQUATOR,
 };
 
 /// Longitudes and latitudes, as patterns.
 type List = Vec<[u64; 2]>;
+
+/// For a panic that no kind stands for.
+const NO_KIND: u8 = u8::MAX;
 
 pub fn compare(input: &Arc) -> Case {
     let numbers = finder::arc(input);
     let watched = reference_arc(input);
     let split_fails = watched.result.is_err() && split_fails(input);
     let agree = match numbers.status {
-        0 => {
-            !split_fails && numbers.slots().iter().all(is_well_formed) && tells(&numbers, &watched)
-        }
+        0 => !split_fails && slots_agree(&numbers, &watched),
         10 => split_fails && numbers.slots() == [SlotNumbers::default(); 5],
         _ => false,
     };
     Case {
         found: matches!(&watched.result, Ok(list) if !list.is_empty()),
         panic: watched.result.as_ref().err().copied(),
-        kinds: (numbers.status == 0).then(|| numbers.slots().map(|slot| slot.kind)),
+        outcome: match numbers.status {
+            0 => Outcome::Slots(numbers.slots().map(|slot| slot.kind)),
+            status => Outcome::Refused(status),
+        },
         difference: (!agree).then(|| format!("{numbers:x?}\n  the reference: {watched:x?}")),
     }
 }
@@ -67,51 +72,59 @@ fn split_fails(input: &Arc) -> bool {
     [-TRANSITION_Z, TRANSITION_Z].into_iter().any(fails)
 }
 
-/// Whether a slot is zero where its kind carries nothing.
+/// Whether the slots are those that the reference has worked out, and its list is theirs.
+fn slots_agree(numbers: &ArcNumbers, watched: &Watched<List>) -> bool {
+    let agree = |(slot, expected): (&SlotNumbers, Option<SlotNumbers>)| match expected {
+        Some(expected) => *slot == expected,
+        None => is_well_formed(slot),
+    };
+    let lists_agree = match &watched.result {
+        Ok(result) => *result == list(numbers),
+        Err(_) => true,
+    };
+    lists_agree && numbers.slots().iter().zip(expected(watched)).all(agree)
+}
+
+/// The slots that the reference has worked out: all, or up to the one at which it panics.
+fn expected(watched: &Watched<List>) -> [Option<SlotNumbers>; 5] {
+    let Work {
+        mut slots,
+        order,
+        at,
+        ..
+    } = watched.work;
+    let mut last = order[4];
+    if let Err(panic) = watched.result {
+        last = at;
+        slots[at].kind = match (panic, slots[at].kind) {
+            (Panic::Unreachable, 2) => 5,
+            (Panic::UnwrapOfNone, 2) if at != EQUATOR => 4,
+            _ => NO_KIND,
+        };
+    }
+    let mut expected = [None; 5];
+    for slot in order {
+        let [first, second] = slots[slot].point;
+        expected[slot] = Some(SlotNumbers {
+            kind: slots[slot].kind,
+            steps: slots[slot].steps,
+            first,
+            second,
+        });
+        if slot == last {
+            break;
+        }
+    }
+    expected
+}
+
+/// Whether a slot that the reference has not come to is zero where its kind carries nothing.
 fn is_well_formed(slot: &SlotNumbers) -> bool {
     let point = [slot.first, slot.second];
     match slot.kind {
         0 | 1 => slot.steps == 0 && point == [0; 2],
         2 | 4 | 5 => point == [0; 2],
         kind => kind == 3,
-    }
-}
-
-/// Whether the slots tell what the reference did: its list or its panic, and its walks up to there. It walks a cap's second piece before
-/// the first where the arc crosses longitude 0; the slots don't tell that, so each cap is read both ways.
-fn tells(numbers: &ArcNumbers, watched: &Watched<List>) -> bool {
-    let [south, north] = numbers.caps();
-    let both_ways = |[first, second]: [SlotNumbers; 2]| [[first, second], [second, first]];
-    both_ways(south).into_iter().any(|south| {
-        let mut norths = both_ways(north).into_iter();
-        norths.any(|north| told(numbers, south, north) == *watched)
-    })
-}
-
-/// What the slots tell of the reference, if it walks the pieces of the caps in this order.
-fn told(numbers: &ArcNumbers, south: [SlotNumbers; 2], north: [SlotNumbers; 2]) -> Watched<List> {
-    let cap = |slots: [SlotNumbers; 2]| slots.map(|slot| (slot, Some(Panic::UnwrapOfNone)));
-    let mut walks = Vec::new();
-    let equator = [(numbers.equator, None)];
-    for (slot, at_kind_4) in cap(south).into_iter().chain(equator).chain(cap(north)) {
-        if slot.kind >= 2 {
-            walks.push(slot.steps);
-        }
-        let panic = match slot.kind {
-            4 => at_kind_4,
-            5 => Some(Panic::Unreachable),
-            _ => None,
-        };
-        if let Some(panic) = panic {
-            return Watched {
-                result: Err(panic),
-                walks,
-            };
-        }
-    }
-    Watched {
-        result: Ok(list(numbers)),
-        walks,
     }
 }
 

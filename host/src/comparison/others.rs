@@ -1,5 +1,6 @@
 //! One cone, or one crossing with a parallel, against the reference.
 
+use super::outcomes::{Outcome, EQUATORIAL_CONE, PARALLEL, POLAR_CONE};
 use super::Case;
 use crate::finder::{self, SlotNumbers};
 use crate::inputs::{Cone, Parallel, PolarCone};
@@ -21,11 +22,9 @@ pub fn equatorial_cone(input: &Cone) -> Case {
     let watched = watch(|| {
         cone_special_point_in_eqr(z, z0, radius, north, settings.precision, settings.allowance)
     });
-    case(
-        finder::cone_in_eqr(input),
-        expected_of_cone(&watched),
-        &watched,
-    )
+    let numbers = finder::cone_in_eqr(input);
+    let expected = expected_of_cone(&watched);
+    case(EQUATORIAL_CONE, numbers, expected, &watched)
 }
 
 pub fn polar_cone(input: &PolarCone) -> Case {
@@ -44,11 +43,9 @@ pub fn polar_cone(input: &PolarCone) -> Case {
     let (precision, allowance) = (settings.precision, settings.allowance);
     let watched =
         watch(|| cone_special_point_in_pc(z, lon, z0, radius, east, north, precision, allowance));
-    case(
-        finder::cone_in_pc(input),
-        expected_of_cone(&watched),
-        &watched,
-    )
+    let numbers = finder::cone_in_pc(input);
+    let expected = expected_of_cone(&watched);
+    case(POLAR_CONE, numbers, expected, &watched)
 }
 
 pub fn parallel(input: &Parallel) -> Case {
@@ -64,13 +61,14 @@ pub fn parallel(input: &Parallel) -> Case {
         Err(Panic::Unreachable) => slot(5, 0, [0; 2]),
         Err(_) => None,
     };
-    case(finder::parallel(input), expected, &watched)
+    case(PARALLEL, finder::parallel(input), expected, &watched)
 }
 
 fn expected_of_cone(watched: &Watched<Option<f64>>) -> Option<SlotNumbers> {
-    match (&watched.result, watched.walks.as_slice()) {
-        (Ok(Some(z)), [steps]) => slot(3, *steps, [pattern(*z), 0]),
-        (Ok(None), [steps]) => slot(2, *steps, [0; 2]),
+    let walk = watched.work.slots[0];
+    match (&watched.result, walk.kind) {
+        (Ok(Some(z)), 2) => slot(3, walk.steps, [pattern(*z), 0]),
+        (Ok(None), 2) => slot(2, walk.steps, [0; 2]),
         _ => None,
     }
 }
@@ -85,6 +83,7 @@ fn slot(kind: u8, steps: u8, [first, second]: [u64; 2]) -> Option<SlotNumbers> {
 }
 
 fn case<T: Debug>(
+    row: usize,
     numbers: SlotNumbers,
     expected: Option<SlotNumbers>,
     watched: &Watched<Option<T>>,
@@ -93,7 +92,7 @@ fn case<T: Debug>(
     Case {
         found: matches!(watched.result, Ok(Some(_))),
         panic: watched.result.as_ref().err().copied(),
-        kinds: None,
+        outcome: Outcome::One(row, numbers.kind),
         difference: (!agree).then(|| format!("{numbers:x?}\n  the reference: {watched:x?}")),
     }
 }

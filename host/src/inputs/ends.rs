@@ -4,7 +4,7 @@ use super::{Class, Ends, TRANSITION_Z};
 use crate::random::Random;
 use std::f64::consts::{FRAC_PI_2, FRAC_PI_4, PI, TAU};
 
-pub const CLASSES: [Class<Ends>; 22] = [
+pub const CLASSES: [Class<Ends>; 24] = [
     ("uniform", |random| {
         joined(on_sphere(random), on_sphere(random))
     }),
@@ -20,6 +20,8 @@ pub const CLASSES: [Class<Ends>; 22] = [
     ("about a point in the equator", special_in_eqr),
     ("about a point in a cap", special_in_cap),
     ("about a point at a border", special_at_border),
+    ("about points in two quarters", special_in_two_quarters),
+    ("from a special point", from_special),
     ("around the transition", around_transition),
     ("in one cap", in_one_cap),
     ("from cap to cap", from_cap_to_cap),
@@ -38,7 +40,7 @@ pub const CLASSES: [Class<Ends>; 22] = [
 ];
 
 /// Lost points, panics and other arcs that every run looks at.
-const KEPT: [Ends; 7] = [
+const KEPT: [Ends; 8] = [
     // Document 01: the cross product is zero, status 10.
     [0.0, 0.8, PI, -0.8],
     // An edge of 13 degrees over longitude 0: the piece before it has a special point, and is not looked at.
@@ -75,6 +77,13 @@ const KEPT: [Ends; 7] = [
         -0.2678237116066448,
         1.2991747463510848,
         -0.25479556955392063,
+    ],
+    // An edge of 5 degrees with a special point at its end: the walk may reach that end's own height, kind 4 in the equator.
+    [
+        0.42677966496770586,
+        -0.6461123305380823,
+        0.3691302060663067,
+        -0.7155966999733249,
     ],
     // An edge of 1.6 degrees that starts beside T: neither root passes, status 10.
     [
@@ -212,31 +221,25 @@ fn bearing_of(derivative: f64, lat: f64) -> f64 {
     (derivative * lat.cos().powi(2)).atan()
 }
 
-/// Around a special point of any region.
+/// Around a special point of any region, or two of a cap.
 pub fn special(random: &mut Random) -> Ends {
-    random.one_of(&[special_in_eqr, special_in_cap, special_at_border])(random)
+    let draws = [
+        special_in_eqr,
+        special_in_cap,
+        special_at_border,
+        special_in_two_quarters,
+    ];
+    random.one_of(&draws)(random)
 }
 
-/// Around a special point in the equatorial region, where that derivative is ±3π/8.
 fn special_in_eqr(random: &mut Random) -> Ends {
-    let lat = random.between(-TRANSITION_Z, TRANSITION_Z).asin();
-    let derivative = random.signed(1.5 * FRAC_PI_4);
-    let point = [any_lon(random), lat];
-    through(random, point, bearing_of(derivative, lat), -12.0, -0.3)
-}
-
-/// Around a special point in a cap, where it is half the way in longitude to either border of the quarter, over 1 − |z|.
-fn special_in_quarter(random: &mut Random, in_quarter: f64, low: f64, high: f64) -> Ends {
-    let lat = cap_lat(random);
-    let way = random.one_of(&[in_quarter, in_quarter - FRAC_PI_2]);
-    let derivative = (0.5 * way / (1.0 - lat.sin().abs())).copysign(way * lat);
-    let lon = random.below(4) as f64 * FRAC_PI_2 + in_quarter;
-    through(random, [lon, lat], bearing_of(derivative, lat), low, high)
+    let (point, bearing) = point_in_eqr(random);
+    through(random, point, bearing, -12.0, -0.3)
 }
 
 fn special_in_cap(random: &mut Random) -> Ends {
-    let in_quarter = random.between(0.0, FRAC_PI_2);
-    special_in_quarter(random, in_quarter, -12.0, -0.3)
+    let (point, bearing) = point_in_cap(random);
+    through(random, point, bearing, -12.0, -0.3)
 }
 
 /// Around a special point in a cap so close to a quarter's border that the arc may cross it.
@@ -244,7 +247,51 @@ fn special_at_border(random: &mut Random) -> Ends {
     let power = random.between(-12.0, -0.5);
     let off = 10f64.powf(power);
     let in_quarter = random.one_of(&[off, FRAC_PI_2 - off]);
-    special_in_quarter(random, in_quarter, power - 1.0, power + 2.0)
+    let (point, bearing) = point_in_quarter(random, in_quarter);
+    through(random, point, bearing, power - 1.0, power + 2.0)
+}
+
+/// A point of the equatorial region and the direction in which it is special: that derivative is ±3π/8.
+fn point_in_eqr(random: &mut Random) -> (Point, f64) {
+    let lat = random.between(-TRANSITION_Z, TRANSITION_Z).asin();
+    let derivative = random.signed(1.5 * FRAC_PI_4);
+    ([any_lon(random), lat], bearing_of(derivative, lat))
+}
+
+fn point_in_cap(random: &mut Random) -> (Point, f64) {
+    let in_quarter = random.between(0.0, FRAC_PI_2);
+    point_in_quarter(random, in_quarter)
+}
+
+/// The same in a cap: that derivative is half the way in longitude to either border of the quarter, over 1 − |z|.
+fn point_in_quarter(random: &mut Random, in_quarter: f64) -> (Point, f64) {
+    let lat = cap_lat(random);
+    let way = random.one_of(&[in_quarter, in_quarter - FRAC_PI_2]);
+    let derivative = (0.5 * way / (1.0 - lat.sin().abs())).copysign(way * lat);
+    let lon = random.below(4) as f64 * FRAC_PI_2 + in_quarter;
+    ([lon, lat], bearing_of(derivative, lat))
+}
+
+/// With a special point in the first and in the last of three quarters: two next to each other have one each by rounding only. Such an arc
+/// is highest about the middle of the quarter between, at a latitude of about 0.97, and ends soon after it. That quarter is not 0, as the
+/// reference takes no piece in quarter 3 of an arc across longitude 0.
+fn special_in_two_quarters(random: &mut Random) -> Ends {
+    let middle = (1 + random.below(3)) as f64 * FRAC_PI_2 + FRAC_PI_4;
+    let top = random.between(-0.02, 0.02);
+    let top_lat = random.between(0.96, 0.99);
+    let steepness = random.signed(top_lat.tan());
+    let [west, east] = [-1.0, 1.0].map(|side| side * (FRAC_PI_4 + random.between(0.05, 0.15)));
+    let [start, end] =
+        [west, east].map(|lon| [middle + lon, (steepness * (lon - top).cos()).atan()]);
+    joined(start, end)
+}
+
+/// From a special point or next to it, so that the walk may end at the end's own height.
+fn from_special(random: &mut Random) -> Ends {
+    let ([lon, lat], bearing) = random.one_of(&[point_in_eqr, point_in_cap])(random);
+    let distance = random.power_of_ten(-2.0, -0.3);
+    let end = towards([lon, lat], bearing, random.signed(distance));
+    joined([lon, random.nudged(lat)], end)
 }
 
 fn around_transition(random: &mut Random) -> Ends {
