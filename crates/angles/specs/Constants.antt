@@ -9,9 +9,6 @@ use Rattle.angles.specs.Floats.{_⊗_, _⊘_, ofNat, plusZero, one}
 abbrev pub half : Float
 half = ofBits binary64 0x3fe0_0000_0000_0000
 
-abbrev pub oneAndHalf : Float
-oneAndHalf = ofBits binary64 0x3ff8_0000_0000_0000
-
 abbrev pub two : Float
 two = ofBits binary64 0x4000_0000_0000_0000
 
@@ -41,6 +38,10 @@ twoPi = ofBits binary64 0x4019_21fb_5444_2d18
 abbrev pub transitionZ : Float
 transitionZ = ofBits binary64 0x3fe5_5555_5555_5555
 
+-- 1.5, which the source calls ONE_OVER_TRANSITION_Z
+abbrev pub oneOverTransitionZ : Float
+oneOverTransitionZ = ofBits binary64 0x3ff8_0000_0000_0000
+
 -- 2⁻⁵², the source's f64::EPSILON
 abbrev pub epsilon : Float
 epsilon = ofBits binary64 0x3cb0_0000_0000_0000
@@ -52,9 +53,9 @@ meridianLimit = ofBits binary64 0x3d06_849b_86a1_2b9b
 abbrev pub shortLimit : Float
 shortLimit = ofBits binary64 0x3f90_4c26_be3b_06cf
 
--- the part of h, and the least limit, that "Walks" names
-abbrev pub partOfHeight : Float
-partOfHeight = ofBits binary64 0x3f94_7ae1_47ae_147b
+-- 0.02 and 1e-15, in the limit of a walk ("Walks")
+abbrev pub fiftieth : Float
+fiftieth = ofBits binary64 0x3f94_7ae1_47ae_147b
 
 abbrev pub leastLimit : Float
 leastLimit = ofBits binary64 0x3cd2_03af_9ee7_5616
@@ -64,7 +65,6 @@ pub record Constants : Type 0 where
   pub plusZero-is : plusZero ≡ ofNat 0
   pub one-is : one ≡ ofNat 1
   pub half-is : half ≡ one ⊘ ofNat 2
-  pub oneAndHalf-is : oneAndHalf ≡ ofNat 3 ⊘ ofNat 2
   pub two-is : two ≡ ofNat 2
   pub three-is : three ≡ ofNat 3
   pub four-is : four ≡ ofNat 4
@@ -74,8 +74,9 @@ pub record Constants : Type 0 where
   pub eighthPi-is : eighthPi ≡ pi ⊘ ofNat 8
   pub twoPi-is : twoPi ≡ ofNat 2 ⊗ pi
   pub transitionZ-is : transitionZ ≡ ofNat 2 ⊘ ofNat 3
+  pub oneOverTransitionZ-is : oneOverTransitionZ ≡ ofNat 3 ⊘ ofNat 2
   pub epsilon-is : epsilon ≡ round binary64 false 1 (2 ^ 52)
   pub meridianLimit-is : meridianLimit ≡ round binary64 false 1 (10 ^ 14)
   pub shortLimit-is : shortLimit ≡ one ⊘ ofNat 3600 ⊗ (ofNat 180 ⊘ pi)
-  pub partOfHeight-is : partOfHeight ≡ round binary64 false 2 (10 ^ 2)
+  pub fiftieth-is : fiftieth ≡ round binary64 false 2 (10 ^ 2)
   pub leastLimit-is : leastLimit ≡ round binary64 false 1 (10 ^ 15)

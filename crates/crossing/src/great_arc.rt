@@ -1,10 +1,9 @@
 // An arc of a great circle, with what all its crossings share.
 
-use angles::inverse;
 use coo3d::vect3;
 use coo3d::vect3::Vect3;
 ghost use mathlib.Core.Path.{_≡_};
-ghost use Rattle.crossing.specs.GreatArcs.{greatArc, angDist, passesOf};
+ghost use Rattle.crossing.specs.GreatArcs.{greatArc, passesOf};
 
 // The ends, their scalar product, and the norm and the direction of their cross product.
 pub struct GreatArc {
@@ -28,13 +27,6 @@ impl GreatArc {
             norm,
             normal: p1_x_p2.divided_by(norm),
         }
-    }
-
-    // The angle between the ends.
-    pub fn ang_dist(self) -> f64
-        ensures { λ r. ⌜ r ≡ angDist self ⌝ }
-    {
-        inverse::atan2(self.norm, self.dot)
     }
 
     // The two scalar product tests: whether v is no farther from either end than the ends are from each other.

@@ -3,6 +3,7 @@
 use super::great_arc::GreatArc;
 use angles::PI;
 use angles::float;
+use angles::inverse;
 use coo3d::vect3::Vect3;
 ghost use mathlib.Core.Path.{_≡_};
 ghost use Rattle.crossing.specs.Parallels.{strictlyBetween, firstThatPasses, nearMeridian, shortArc, quadratic as quadraticOf, ruleOf, crossingBy, crossingOf, intersectParallel};
@@ -86,7 +87,7 @@ impl GreatArc {
     {
         if float::abs(self.normal.y) <= NEAR_MERIDIAN {
             Rule::NearMeridian
-        } else if self.ang_dist() < SHORT_ARC {
+        } else if inverse::atan2(self.norm, self.dot) < SHORT_ARC {
             Rule::ShortArc
         } else {
             Rule::Quadratic

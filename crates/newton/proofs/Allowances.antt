@@ -13,7 +13,7 @@ use Rattle.newton.specs.declared.slope.Slope.{Slope}
 use Rattle.newton.specs.declared.walk.Start.{Start}
 use Rattle.newton.specs.declared.walk.Walk.{Walk}
 use Rattle.newton.specs.Walks.{goingOf, startWalk, stepOf, walkFrom, walkOf}
-use Rattle.newton.specs.Allowances.{freeSteps, EndsFrom, EndsWithin, smaller, Same, TwoAllowances}
+use Rattle.newton.specs.Allowances.{freeSteps, EndsFrom, EndsWithin, smaller, EqualOrEnds, TwoAllowances}
 
 module _ (slope : Slope) (limit : Float) where
   -- a walk takes no step back
@@ -86,13 +86,13 @@ smaller-swapped a b = by (leb a b) (leb b a) refl refl
     by false true e f = refl
     by false false e f = absurd (omega (arith, leb-false a b e, leb-false b a f))
 
-same-swapped : (s : Start) (a b : ℕ) → Same a b s → Same b a s
-same-swapped s a b (inl e) = inl (sym e)
-same-swapped s a b (inr q) = inr (rw (smaller-swapped b a) q)
+swapped : (s : Start) (a b : ℕ) → EqualOrEnds a b s → EqualOrEnds b a s
+swapped s a b (inl e) = inl (sym e)
+swapped s a b (inr q) = inr (rw (smaller-swapped b a) q)
 
 ordered : (s : Start) (a b : ℕ) → a ≤ b → TwoAllowances s a b
 ordered s a b l =
-    let tell : walkOf s a .steps ≡ walkOf s b .steps → Same a b s = λ h. rw (smaller-first a b) (steps-apart s a b l h) in
+    let tell : walkOf s a .steps ≡ walkOf s b .steps → EqualOrEnds a b s = λ h. rw (smaller-first a b) (steps-apart s a b l h) in
     record {
       law = (
         λ h. tell (ap (λ (w : Walk). w .steps) h),
@@ -110,6 +110,6 @@ two-allowances s a b = by (leb a b) refl
     by false e =
         let t = ordered s b a (omega (arith, leb-false a b e)) in
         record {
-          law = (λ h. same-swapped s b a (t .law .0 (sym h)), λ q. sym (t .law .1 (same-swapped s a b q)));
-          steps-tell = λ h. same-swapped s b a (t .steps-tell (sym h));
+          law = (λ h. swapped s b a (t .law .0 (sym h)), λ q. sym (t .law .1 (swapped s a b q)));
+          steps-tell = λ h. swapped s b a (t .steps-tell (sym h));
         }

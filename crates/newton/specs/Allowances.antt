@@ -5,7 +5,6 @@ use lib.Dec.{leb}
 use Prim.Native.Nat.{ℕ, zero, suc, _≤_}
 use mathlib.Core.Path.{_≡_}
 use mathlib.Core.Bool.{false, cond}
-use mathlib.Core.List.{List, [], _∷_}
 use mathlib.Core.Logic.{_⊎_, _↔_}
 use Rattle.newton.specs.Walks.{startWalk, goingOf, stepOf, walkOf}
 use Rattle.newton.specs.declared.slope.Slope.{Slope}
@@ -30,15 +29,11 @@ unfoldable pub smaller : ℕ → ℕ → ℕ
 smaller a b = cond (leb a b) a b
 
 -- the allowances a and b are equal, or the walk ends by itself within the smaller
-abbrev pub Same : ℕ → ℕ → Start → Type 0
-Same a b s = (a ≡ b) ⊎ EndsWithin s (smaller a b)
+abbrev pub EqualOrEnds : ℕ → ℕ → Start → Type 0
+EqualOrEnds a b s = (a ≡ b) ⊎ EndsWithin s (smaller a b)
 
--- For a walk and two allowances: the results are equal if and only if the walk is the same with both, and equal step counts already tell it.
+-- For a walk and two allowances: the results are equal if and only if the allowances are equal or the walk ends by itself within the
+-- smaller, and equal step counts already give the latter.
 pub record TwoAllowances (s : Start) (a b : ℕ) : Type 0 where
-  pub law : (walkOf s a ≡ walkOf s b) ↔ Same a b s
-  pub steps-tell : walkOf s a .steps ≡ walkOf s b .steps → Same a b s
-
--- each walk of a list is the same with both
-unfoldable pub AllSame : ℕ → ℕ → List Start → Type 0
-AllSame a b [] = Unit
-AllSame a b (s ∷ ss) = Same a b s × AllSame a b ss
+  pub law : (walkOf s a ≡ walkOf s b) ↔ EqualOrEnds a b s
+  pub steps-tell : walkOf s a .steps ≡ walkOf s b .steps → EqualOrEnds a b s

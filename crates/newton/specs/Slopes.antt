@@ -3,7 +3,7 @@ use lib.Ieee.{Float, neg, lt, eq}
 use mathlib.Core.Bool.{Bool, _||_, Bool·beq}
 use Rattle.root.specs.Root.{rootOf}
 use Rattle.angles.specs.Floats.{_⊕_, _⊖_, _⊗_, _⊘_, plusZero, one}
-use Rattle.angles.specs.Constants.{half, oneAndHalf, two, three, quarterPi}
+use Rattle.angles.specs.Constants.{half, oneOverTransitionZ, two, three, quarterPi}
 use Rattle.angles.specs.Inverse.{acosOf}
 use Rattle.newton.specs.declared.slope.Cone.{Cone}
 use Rattle.newton.specs.declared.slope.Terms.{Terms}
@@ -12,7 +12,7 @@ use Rattle.newton.specs.declared.slope.Slope.the-variants.{Equatorial, P
 
 -- w0 is 1 − z0²
 unfoldable pub coneOf : Float → Float → Cone
-coneOf a b = record { z0 = a; w0 = one ⊖ a ⊗ a; r = b }
+coneOf z0 r = record { z0 = z0; w0 = one ⊖ z0 ⊗ z0; r = r }
 
 -- what slope and ratio of either region share, in the source's names
 unfoldable pub termsOf : Cone → Float → Terms
@@ -53,7 +53,7 @@ unfoldable pub fOverDfNpc : Float → Cone → Float → Float → Float → Flo
 fOverDfNpc z cone lon cte direction =
     let t = termsOf cone z in
     let w = one ⊖ z in
-    let df = neg oneAndHalf ⊗ direction ⊗ t .dalphadz ⊕ direction ⊗ w ⊘ t .sqrt ⊗ secondOf t (cone .z0) in
+    let df = neg oneOverTransitionZ ⊗ direction ⊗ t .dalphadz ⊕ (direction ⊗ w ⊘ t .sqrt) ⊗ secondOf t (cone .z0) in
     slopeNpc t z lon cte direction ⊘ df
 
 -- `have_same_sign`

@@ -4,7 +4,7 @@ use Prim.Native.Nat.{ℕ, zero, suc, _+_, _≤_}
 use mathlib.Core.Path.{_≡_}
 use mathlib.Core.Bool.{Bool, true, false}
 use Rattle.angles.specs.Floats.{_⊖_, _⊗_, one, absOf, minOf, maxOf}
-use Rattle.angles.specs.Constants.{partOfHeight, leastLimit}
+use Rattle.angles.specs.Constants.{fiftieth, leastLimit}
 use Rattle.newton.specs.Slopes.{ratioAt}
 use Rattle.newton.specs.declared.slope.Slope.{Slope}
 use Rattle.newton.specs.declared.walk.Start.{Start}
@@ -12,10 +12,10 @@ use Rattle.newton.specs.declared.walk.Walk.{Walk}
 
 -- min(precision, 0.02 × h), then max with 1e-15, each giving the other operand for a NaN
 unfoldable pub limitOf : Float → Float → Float
-limitOf precision h = maxOf (minOf precision (partOfHeight ⊗ h)) leastLimit
+limitOf precision h = maxOf (minOf precision (fiftieth ⊗ h)) leastLimit
 
 abbrev pub walkAt : Float → Float → ℕ → Walk
-walkAt a b n = record { z = a; size = b; steps = n }
+walkAt z size steps = record { z = z; size = size; steps = steps }
 
 -- a walk starts at a height, with step size 1
 unfoldable pub startWalk : Float → Walk

@@ -6,6 +6,8 @@ use angles::inverse;
 ghost use mathlib.Core.Path.{_≡_};
 ghost use Rattle.newton.specs.Slopes.{coneOf, termsOf, secondOf, slopeNpc, fEqr, fOverDfEqr, fNpc, fOverDfNpc, haveSameSign, slopeAt, ratioAt};
 
+pub const ONE_OVER_TRANSITION_Z: f64 = 1.5;
+
 // z0 is the sine of the centre's latitude, w0 is 1 - z0², r the cosine of the angular radius.
 pub struct Cone {
     pub z0: f64,
@@ -115,7 +117,8 @@ pub fn f_over_df_npc(z: f64, cone: Cone, lon: f64, cte: f64, direction: f64) -> 
     let t = cone.terms(z);
     let f = t.slope_npc(z, lon, cte, direction);
     let w = 1.0 - z;
-    let df = -1.5 * direction * t.dalphadz + (direction * w / t.sqrt) * t.second(cone.z0);
+    let df = -ONE_OVER_TRANSITION_Z * direction * t.dalphadz
+        + (direction * w / t.sqrt) * t.second(cone.z0);
     f / df
 }
 

@@ -6,7 +6,7 @@ ghost use mathlib.Core.Path.{_≡_};
 ghost use Prim.Native.Nat.{_<_};
 ghost use Rattle.newton.specs.Walks.{limitOf, goingOf, startWalk, stepOf, Walked};
 
-const PART_OF_HEIGHT: f64 = 0.02;
+const FIFTIETH: f64 = 0.02;
 
 const LEAST_LIMIT: f64 = 1.0e-15;
 
@@ -27,7 +27,7 @@ pub struct Walk {
 pub fn limit(precision: f64, h: f64) -> f64
     ensures { λ r. ⌜ r ≡ limitOf precision h ⌝ }
 {
-    float::max(float::min(precision, PART_OF_HEIGHT * h), LEAST_LIMIT)
+    float::max(float::min(precision, FIFTIETH * h), LEAST_LIMIT)
 }
 
 impl Walk {

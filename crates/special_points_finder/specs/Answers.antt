@@ -13,6 +13,10 @@ use Rattle.special_points_finder.specs.declared.answer.Numbers.{Numbers}
 abbrev pub slotOf : ℕ → Answer → Slot
 slotOf n a = record { steps = n; answer = a }
 
+-- a slot without a walk has no steps
+unfoldable pub withoutWalk : Answer → Slot
+withoutWalk a = slotOf 0 a
+
 abbrev pub numbers : ℕ → Float → Float → Numbers
 numbers k a b = record { kind = k; first = a; second = b }
 

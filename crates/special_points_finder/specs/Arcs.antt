@@ -3,11 +3,9 @@ use lib.Ieee.{Float}
 use Prim.Native.Nat.{ℕ}
 use mathlib.Core.List.{List, [], _∷_}
 use Rattle.newton.specs.declared.walk.Start.{Start}
-use Rattle.special_points_finder.specs.Answers.{slotOf}
 use Rattle.special_points_finder.specs.Plans.{capPlan, slotAt, capSlotsAt, walksIn}
 use Rattle.special_points_finder.specs.Equator.{arcPlanInEqr}
 use Rattle.special_points_finder.specs.Caps.{arcPlanInPc}
-use Rattle.special_points_finder.specs.declared.answer.Answer.the-variants as answer
 use Rattle.special_points_finder.specs.declared.answer.Slot.{Slot}
 use Rattle.special_points_finder.specs.declared.plan.Plan.{Plan}
 use Rattle.special_points_finder.specs.declared.plan.Plan.the-variants.{NoPiece}
@@ -21,9 +19,6 @@ use Rattle.special_points_finder.specs.declared.arc.Slots.{Slots}
 use Rattle.special_points_finder.specs.declared.arc.ArcAnswer.{ArcAnswer}
 use Rattle.special_points_finder.specs.declared.arc.ArcAnswer.the-variants as arc
 
-unfoldable pub noPiece : Slot
-noPiece = slotOf 0 answer.NoPiece
-
 -- the plans for a piece in a cap, and for one in the equatorial region
 unfoldable pub planInPc : Piece → Float → CapPlan
 planInPc Nothing precision = capPlan NoPiece NoPiece
@@ -33,26 +28,40 @@ unfoldable pub planInEqr : Piece → Float → Plan
 planInEqr Nothing precision = NoPiece
 planInEqr (Between from to) precision = arcPlanInEqr from to precision
 
-unfoldable pub slotsAt : ℕ → Regions → Float → Slots
-slotsAt n r precision =
+-- the plans of the five slots
+pub record ArcPlan : Type 0 where
+  pub south : CapPlan
+  pub equator : Plan
+  pub north : CapPlan
+
+unfoldable pub arcPlan : Regions → Float → ArcPlan
+arcPlan r precision =
     record {
-      south = capSlotsAt n (planInPc (r .south) precision);
-      equator = slotAt n (planInEqr (r .equator) precision);
-      north = capSlotsAt n (planInPc (r .north) precision);
+      south = planInPc (r .south) precision;
+      equator = planInEqr (r .equator) precision;
+      north = planInPc (r .north) precision;
     }
+
+unfoldable pub slotsAt : ℕ → ArcPlan → Slots
+slotsAt n p =
+    record { south = capSlotsAt n (p .south); equator = slotAt n (p .equator); north = capSlotsAt n (p .north) }
 
 -- what an arc answers with an allowance, once it is split; where it can't be, status 10
 unfoldable pub arcAt : ℕ → Split → Float → ArcAnswer
-arcAt n (Into r) precision = arc.Slots (slotsAt n r precision)
+arcAt n (Into r) precision = arc.Slots (slotsAt n (arcPlan r precision))
 arcAt n Failed precision = arc.Unsplit
 
--- the plans of the five slots, in the order of the slots, and the walks that they begin
+-- the plans in the order of the slots, none where the arc can't be split, and the walks that begin
 unfoldable pub arcPlans : Split → Float → List Plan
 arcPlans (Into r) precision =
-    let s = planInPc (r .south) precision in
-    let n = planInPc (r .north) precision in
-    s .first ∷ s .second ∷ planInEqr (r .equator) precision ∷ n .first ∷ n .second ∷ []
+    let p = arcPlan r precision in
+    p .south .first ∷ p .south .second ∷ p .equator ∷ p .north .first ∷ p .north .second ∷ []
 arcPlans Failed precision = []
 
 unfoldable pub arcWalks : Split → Float → List Start
 arcWalks s precision = walksIn (arcPlans s precision)
+
+-- the slots in their order
+unfoldable pub slotsIn : ArcAnswer → List Slot
+slotsIn (arc.Slots s) = s .south .first ∷ s .south .second ∷ s .equator ∷ s .north .first ∷ s .north .second ∷ []
+slotsIn arc.Unsplit = []

@@ -20,7 +20,7 @@ use Rattle.special_points_finder.specs.declared.plan.CapPlan.{CapPlan}
 abbrev pub pointOf : Vect3 → Coo3D
 pointOf v = fromVec3 (v .x) (v .y) (v .z)
 
--- `intersect_point_pc`: where the plane of normal n meets the arc in the plane of normal normal, on the side of the height z
+-- `intersect_point_pc`: where the arc in the plane with this normal meets the plane with the normal n, with the sign of the height z
 unfoldable pub intersectPointPc : Float → Vect3 → Vect3 → Coo3D
 intersectPointPc z normal n =
     let i = normalizedOf (crossOf normal n) in
@@ -33,17 +33,22 @@ quarterEnd odd = cond odd (vect plusZero one plusZero) (vect one plusZero plusZe
 unfoldable pub oddQuarter : Float → Bool
 oddQuarter lon = eqb (quarterOf lon % 2) 1
 
--- from p to the end of its quarter
+-- where the arc meets the end, and the start, of the quarter of p
+unfoldable pub endOfQuarter : Float → Vect3 → Coo3D → Coo3D
+endOfQuarter z normal p = intersectPointPc z normal (quarterEnd (oddQuarter (p .lon)))
+
+unfoldable pub startOfQuarter : Float → Vect3 → Coo3D → Coo3D
+startOfQuarter z normal p = intersectPointPc z normal (quarterEnd (not (oddQuarter (p .lon))))
+
+-- from p to the end of its quarter, unless p lies at its start
 unfoldable pub pieceToEnd : Float → Vect3 → Coo3D → Float → Plan
 pieceToEnd z normal p precision =
-    cond (lt plusZero (lonModHalfPi (p .lon)))
-    (sameQuarterPlan p (intersectPointPc z normal (quarterEnd (oddQuarter (p .lon)))) precision)
-    NoPiece
+    cond (lt plusZero (lonModHalfPi (p .lon))) (sameQuarterPlan p (endOfQuarter z normal p) precision) NoPiece
 
 -- the same, if the end has the larger longitude
 unfoldable pub pieceToLargerEnd : Float → Vect3 → Coo3D → Float → Plan
 pieceToLargerEnd z normal p precision =
-    let end = intersectPointPc z normal (quarterEnd (oddQuarter (p .lon))) in
+    let end = endOfQuarter z normal p in
     cond (lt plusZero (lonModHalfPi (p .lon)))
     (cond (lt (p .lon) (end .lon)) (sameQuarterPlan p end precision) NoPiece)
     NoPiece
@@ -51,7 +56,7 @@ pieceToLargerEnd z normal p precision =
 -- from the start of p's quarter to p, if the start has the smaller longitude
 unfoldable pub pieceFromStart : Float → Vect3 → Coo3D → Float → Plan
 pieceFromStart z normal p precision =
-    let start = intersectPointPc z normal (quarterEnd (not (oddQuarter (p .lon)))) in
+    let start = startOfQuarter z normal p in
     cond (lt (start .lon) (p .lon)) (sameQuarterPlan start p precision) NoPiece
 
 -- the arc crosses longitude 0
@@ -59,12 +64,12 @@ unfoldable pub planAcrossZero : Coo3D → Coo3D → Float → CapPlan
 planAcrossZero p1 p2 precision =
     let p2xp1 = normalizedOf (crossOf (vectOf p2) (vectOf p1)) in
     capPlan
-    (sameQuarterPlan (intersectPointPc (p1 .z) p2xp1 (quarterEnd (not (oddQuarter (p1 .lon))))) p1 precision)
+    (sameQuarterPlan (startOfQuarter (p1 .z) p2xp1 p1) p1 precision)
     (pieceToLargerEnd (p1 .z) p2xp1 p2 precision)
 
--- it does not
-unfoldable pub planPastZero : Coo3D → Coo3D → Float → CapPlan
-planPastZero p1 p2 precision =
+-- it does not cross longitude 0
+unfoldable pub planWithinTurn : Coo3D → Coo3D → Float → CapPlan
+planWithinTurn p1 p2 precision =
     let p1xp2 = normalizedOf (crossOf (vectOf p1) (vectOf p2)) in
     capPlan
     (pieceToEnd (p1 .z) p1xp2 p1 precision)
@@ -75,7 +80,7 @@ unfoldable pub orderedPlanInPc : Coo3D → Coo3D → Float → CapPlan
 orderedPlanInPc p1 p2 precision =
     cond (eqb (quarterOf (p1 .lon)) (quarterOf (p2 .lon)))
     (capPlan (sameQuarterPlan p1 p2 precision) NoPiece)
-    (cond (lt pi (p2 .lon ⊖ p1 .lon)) (planAcrossZero p1 p2 precision) (planPastZero p1 p2 precision))
+    (cond (lt pi (p2 .lon ⊖ p1 .lon)) (planAcrossZero p1 p2 precision) (planWithinTurn p1 p2 precision))
 
 -- the end of the smaller longitude comes first
 unfoldable pub arcPlanInPc : Coo3D → Coo3D → Float → CapPlan

@@ -1,13 +1,13 @@
 -- Document 01, codes 04 and 05: a walk begins once for each cone. Definitions only.
 use lib.Ieee.{Float, lt}
-use mathlib.Core.Bool.{Bool}
+use mathlib.Core.Bool.{Bool, xor}
 use Rattle.angles.specs.Floats.{_⊖_, _⊗_, plusZero, one}
 use Rattle.angles.specs.Constants.{half}
 use Rattle.newton.specs.Slopes.{coneOf}
 use Rattle.newton.specs.Walks.{limitOf}
 use Rattle.newton.specs.declared.slope.Cone.{Cone}
 use Rattle.newton.specs.declared.slope.Slope.the-variants.{Equatorial, Polar}
-use Rattle.special_points_finder.specs.Regions.{unlike, cteEqr, cteNpc, directionOf, mirroredOf}
+use Rattle.newton.specs.Regions.{cteEqr, cteNpc, directionOf, mirroredOf}
 use Rattle.special_points_finder.specs.Plans.{startOf}
 use Rattle.special_points_finder.specs.declared.ending.Ending.the-variants.{EqrCone, PcCone}
 use Rattle.special_points_finder.specs.declared.plan.Plan.{Plan}
@@ -28,5 +28,5 @@ unfoldable pub conePlanInPc : Float → Float → Float → Float → Bool → B
 conePlanInPc z lon z0 radius east north precision =
     let south = lt z plusZero in
     let cone = coneOfRadius (mirroredOf south z0) radius in
-    let slope = Polar cone lon (cteNpc (unlike north south)) (directionOf east) in
+    let slope = Polar cone lon (cteNpc (xor north south)) (directionOf east) in
     Begins (startOf slope (limitOf precision radius) (mirroredOf south z)) (PcCone south)

@@ -6,7 +6,7 @@ use Rattle.angles.specs.Constants.{transitionZ}
 use Rattle.crossing.specs.Parallels.{strictlyBetween, crossingOf, intersectParallel}
 use Rattle.crossing.specs.declared.great_arc.GreatArc.{GreatArc}
 use Rattle.special_points_finder.specs.Answers.{crossedOf}
-use Rattle.special_points_finder.specs.Regions.{mirroredOf}
+use Rattle.newton.specs.Regions.{mirroredOf}
 use Rattle.special_points_finder.specs.declared.answer.Answer.{Answer}
 use Rattle.special_points_finder.specs.declared.answer.Answer.the-variants.{Rejected, Height}
 use Rattle.special_points_finder.specs.declared.ending.CapArc.{CapArc}
@@ -15,7 +15,7 @@ use Rattle.special_points_finder.specs.declared.ending.Ending.the-varian
 
 -- in the equatorial region, and from z1 to z2 with both included
 unfoldable pub acceptedEqr : Float → Float → Float → Bool
-acceptedEqr z1 z z2 = lt (absOf z) transitionZ && (le z1 z2 && le z1 z && le z z2 || lt z2 z1 && le z2 z && le z z1)
+acceptedEqr z1 z z2 = lt (absOf z) transitionZ && ((le z1 z2 && le z1 z && le z z2) || (lt z2 z1 && le z2 z && le z z1))
 
 -- in the north cap
 unfoldable pub acceptedNpc : Float → Bool

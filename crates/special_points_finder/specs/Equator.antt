@@ -10,7 +10,7 @@ use Rattle.newton.specs.Slopes.{coneOf, haveSameSign, slopeAt}
 use Rattle.newton.specs.Walks.{limitOf}
 use Rattle.newton.specs.declared.slope.Slope.{Slope}
 use Rattle.newton.specs.declared.slope.Slope.the-variants.{Equatorial}
-use Rattle.special_points_finder.specs.Regions.{cteEqr}
+use Rattle.newton.specs.Regions.{cteEqr}
 use Rattle.special_points_finder.specs.Plans.{startOf}
 use Rattle.special_points_finder.specs.declared.ending.Ending.the-variants.{EqrArc}
 use Rattle.special_points_finder.specs.declared.plan.Plan.{Plan}

@@ -1,5 +1,4 @@
 pub mod Answers
-pub mod Regions
 pub mod Endings
 pub mod Plans
 pub mod Cones

@@ -6,7 +6,7 @@ use mathlib.Core.List.{List, [], _∷_}
 use Rattle.newton.specs.Walks.{walkOf}
 use Rattle.newton.specs.declared.slope.Slope.{Slope}
 use Rattle.newton.specs.declared.walk.Start.{Start}
-use Rattle.special_points_finder.specs.Answers.{slotOf}
+use Rattle.special_points_finder.specs.Answers.{slotOf, withoutWalk}
 use Rattle.special_points_finder.specs.Endings.{answerAt}
 use Rattle.special_points_finder.specs.declared.answer.Answer.the-variants as answer
 use Rattle.special_points_finder.specs.declared.answer.Slot.{Slot}
@@ -16,23 +16,32 @@ use Rattle.special_points_finder.specs.declared.plan.Plan.the-variants.{
 use Rattle.special_points_finder.specs.declared.plan.CapPlan.{CapPlan}
 
 abbrev pub startOf : Slope → Float → Float → Start
-startOf s l h = record { slope = s; limit = l; z = h }
+startOf slope limit z = record { slope = slope; limit = limit; z = z }
 
 abbrev pub capPlan : Plan → Plan → CapPlan
 capPlan p q = record { first = p; second = q }
 
 -- the walk carries the number of steps it took into its answer
 unfoldable pub slotAt : ℕ → Plan → Slot
-slotAt n NoPiece = slotOf 0 answer.NoPiece
-slotAt n NoWalk = slotOf 0 answer.NoWalk
+slotAt n NoPiece = withoutWalk answer.NoPiece
+slotAt n NoWalk = withoutWalk answer.NoWalk
 slotAt n (Begins start ending) = let w = walkOf start n in slotOf (w .steps) (answerAt ending (w .z))
 
 unfoldable pub capSlotsAt : ℕ → CapPlan → CapSlots
 capSlotsAt n p = record { first = slotAt n (p .first); second = slotAt n (p .second) }
 
--- the walks that plans begin, in their order
+-- of a list of plans: the slots, and the walks that begin, in their order
+unfoldable pub slotsOf : ℕ → List Plan → List Slot
+slotsOf n [] = []
+slotsOf n (p ∷ ps) = slotAt n p ∷ slotsOf n ps
+
 unfoldable pub walksIn : List Plan → List Start
 walksIn [] = []
 walksIn (NoPiece ∷ ps) = walksIn ps
 walksIn (NoWalk ∷ ps) = walksIn ps
 walksIn (Begins start ending ∷ ps) = start ∷ walksIn ps
+
+-- the step counts of slots
+unfoldable pub stepsOf : List Slot → List ℕ
+stepsOf [] = []
+stepsOf (s ∷ ss) = s .steps ∷ stepsOf ss

@@ -1,6 +1,6 @@
 -- A piece of an arc in a cap and within one quarter: the source's `arc_special_point_in_pc_same_quarter` up to its walk. Definitions only.
 use lib.Ieee.{Float, lt, eq}
-use mathlib.Core.Bool.{cond, not}
+use mathlib.Core.Bool.{cond, not, xor}
 use Rattle.angles.specs.Floats.{_⊕_, _⊖_, _⊗_, plusZero, absOf}
 use Rattle.angles.specs.Constants.{half, pi, halfPi}
 use Rattle.coo3d.specs.Vectors.{crossOf, normalizedOf, oppositeOf}
@@ -13,22 +13,22 @@ use Rattle.crossing.specs.Parallels.{strictlyBetween}
 use Rattle.newton.specs.Slopes.{coneOf, haveSameSign, slopeAt, ratioAt}
 use Rattle.newton.specs.Walks.{limitOf}
 use Rattle.newton.specs.declared.slope.Slope.the-variants.{Polar}
-use Rattle.special_points_finder.specs.Regions.{unlike, cteNpc, directionOf, mirroredOf}
+use Rattle.newton.specs.Regions.{cteNpc, directionOf, mirroredOf}
 use Rattle.special_points_finder.specs.Plans.{startOf}
 use Rattle.special_points_finder.specs.declared.ending.Ending.the-variants.{PcArc}
 use Rattle.special_points_finder.specs.declared.plan.Plan.{Plan}
 use Rattle.special_points_finder.specs.declared.plan.Plan.the-variants.{NoWalk, Begins}
-use Rattle.special_points_finder.specs.declared.same_quarter.Centre.{Centre}
+use Rattle.special_points_finder.specs.declared.same_quarter.Center.{Center}
 use Rattle.special_points_finder.specs.declared.same_quarter.QuarterPiece.{QuarterPiece}
 
-abbrev pub centreAt : Vect3 → Centre
-centreAt v = record { z = v .z; lon = unitLonOf (v .x) (v .y) }
+abbrev pub centerAt : Vect3 → Center
+centerAt v = record { z = v .z; lon = unitLonOf (v .x) (v .y) }
 
 -- the cone's centre: the normal of the plane through v1 and v2, or its opposite where its longitude is above π
-unfoldable pub centreOf : Vect3 → Vect3 → Centre
-centreOf v1 v2 =
+unfoldable pub centerOf : Vect3 → Vect3 → Center
+centerOf v1 v2 =
     let n = normalizedOf (crossOf v1 v2) in
-    cond (lt pi (unitLonOf (n .x) (n .y))) (centreAt (oppositeOf n)) (centreAt n)
+    cond (lt pi (unitLonOf (n .x) (n .y))) (centerAt (oppositeOf n)) (centerAt n)
 
 -- p2 at the end of its quarter has π/2 there, not 0
 unfoldable pub endLon : Float → Float
@@ -37,15 +37,15 @@ endLon lon = cond (eq lon plusZero) halfPi lon
 -- the slope and the heights of a piece from v1 to v2, which lie in the first quarter; mirrored where it lies in the south cap
 unfoldable pub quarterPiece : Coo3D → Coo3D → QuarterPiece
 quarterPiece v1 v2 =
-    let centre = centreOf (vectOf v1) (vectOf v2) in
-    let northValue = lt (centre .z) plusZero in
-    let eastValue = unlike (unlike (lt (v2 .lat) (v1 .lat)) (lt (v2 .lon) (v1 .lon))) (not northValue) in
+    let center = centerOf (vectOf v1) (vectOf v2) in
+    let northValue = lt (center .z) plusZero in
+    let eastValue = xor (xor (lt (v2 .lat) (v1 .lat)) (lt (v2 .lon) (v1 .lon))) (not northValue) in
     let mean = half ⊗ (v1 .z ⊕ v2 .z) in
     let spc = lt mean plusZero in
-    let cone = coneOf (mirroredOf spc (centre .z)) plusZero in
+    let cone = coneOf (mirroredOf spc (center .z)) plusZero in
     record {
       south = spc;
-      slope = Polar cone (centre .lon) (cteNpc (unlike northValue spc)) (directionOf eastValue);
+      slope = Polar cone (center .lon) (cteNpc (xor northValue spc)) (directionOf eastValue);
       z = mirroredOf spc mean;
       z1 = mirroredOf spc (v1 .z);
       z2 = mirroredOf spc (v2 .z);

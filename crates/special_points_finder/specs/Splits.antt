@@ -1,12 +1,13 @@
 -- The split of an arc at −T and T, before any walk: the cases of the source's `arc_special_points`. Definitions only.
 use lib.Ieee.{Float, neg, lt, le, ne}
 use mathlib.Core.Path.{_≡_}
+use mathlib.Core.Logic.{_⊎_}
 use mathlib.Core.Bool.{Bool, true, false, cond, not, _&&_}
 use Rattle.angles.specs.Constants.{transitionZ}
 use Rattle.coo3d.specs.Points.{vectOf}
 use Rattle.coo3d.specs.declared.point.Coo3D.{Coo3D}
 use Rattle.crossing.specs.GreatArcs.{greatArc}
-use Rattle.crossing.specs.Parallels.{strictlyBetween, ruleOf, crossingBy}
+use Rattle.crossing.specs.Parallels.{ruleOf, crossingBy, intersectParallel}
 use Rattle.crossing.specs.declared.great_arc.GreatArc.{GreatArc}
 use Rattle.crossing.specs.declared.parallel.Rule.{Rule}
 use Rattle.crossing.specs.declared.parallel.Crossing.{Crossing}
@@ -20,7 +21,7 @@ use Rattle.special_points_finder.specs.declared.split.Split.{Split}
 use Rattle.special_points_finder.specs.declared.split.Split.the-variants.{Into, Failed}
 
 unfoldable pub splitInto : Piece → Piece → Piece → Split
-splitInto a b c = Into (record { south = a; equator = b; north = c })
+splitInto south equator north = Into (record { south = south; equator = equator; north = north })
 
 -- where an arc is cut: at the crossing, or it cannot be split
 unfoldable pub cutOf : Crossing → Cut
@@ -42,7 +43,7 @@ splitAtCuts p1 cut.Uncut upper p2 = splitFrom Nothing p1 upper p2
 splitAtCuts p1 (cut.At v) upper p2 = splitFrom (Between p1 v) v upper p2
 splitAtCuts p1 cut.Failed upper p2 = Failed
 
--- an arc of several regions is cut at −T where p1 lies below it, and at T unless p2 lies at or below it
+-- an arc of several regions is cut at −T where p1 lies below it, and at T unless p1 lies below −T and p2 at or below T
 abbrev pub fromSouth : Coo3D → Bool
 fromSouth p1 = lt (p1 .z) (neg transitionZ)
 
@@ -77,10 +78,18 @@ splitOrdered p1 p2 =
 unfoldable pub splitOf : Coo3D → Coo3D → Split
 splitOf p1 p2 = cond (lt (p2 .z) (p1 .z)) (splitOrdered p2 p1) (splitOrdered p1 p2)
 
--- A height that is a number, of an arc of several regions: no crossing that has to split it is of kind 4. `proofs/Splits.antt` proves it.
+-- not a NaN
 abbrev pub isNumber : Float → Type 0
 isNumber z = ne z z ≡ false
 
-pub record NoKind4 (p1 p2 : Coo3D) : Type 0 where
-  pub lower : fromSouth p1 ≡ true → strictlyBetween (p1 .z) (neg transitionZ) (p2 .z) ≡ true
-  pub upper : toNorth p1 p2 ≡ true → strictlyBetween (p1 .z) transitionZ (p2 .z) ≡ true
+-- a crossing that has to split the arc from p1 up to p2 is of kind 5
+abbrev pub SplitHasNoRoot : Coo3D → Coo3D → Type 0
+SplitHasNoRoot p1 p2 =
+    ((fromSouth p1 ≡ true) × (intersectParallel (vectOf p1) (vectOf p2) (neg transitionZ) ≡ crossing.NoRoot))
+    ⊎ ((toNorth p1 p2 ≡ true) × (intersectParallel (vectOf p1) (vectOf p2) transitionZ ≡ crossing.NoRoot))
+
+-- "An arc's crossing with −T or T, needed to split it, is of kind 5": where both heights are numbers, an arc can't be split on this condition
+-- only. `proofs/Splits.antt` proves it.
+abbrev pub OnlyKind5 : Type 0
+OnlyKind5 =
+    (p1 p2 : Coo3D) → isNumber (p1 .z) → isNumber (p2 .z) → splitOrdered p1 p2 ≡ Failed → SplitHasNoRoot p1 p2

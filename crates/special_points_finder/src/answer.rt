@@ -2,7 +2,7 @@
 
 use crossing::parallel::Crossing;
 ghost use mathlib.Core.Path.{_≡_};
-ghost use Rattle.special_points_finder.specs.Answers.{crossedOf, kindAlone, numbersOf};
+ghost use Rattle.special_points_finder.specs.Answers.{withoutWalk, crossedOf, kindAlone, numbersOf};
 
 pub enum Answer {
     NoPiece,
@@ -18,6 +18,14 @@ pub enum Answer {
 pub struct Slot {
     pub steps: u8,
     pub answer: Answer,
+}
+
+impl Slot {
+    pub fn without_walk(answer: Answer) -> Slot
+        ensures { λ r. ⌜ r ≡ withoutWalk answer ⌝ }
+    {
+        Slot { steps: 0, answer }
+    }
 }
 
 // The two slots of a cap: the source's res_z1 and res_z2.

@@ -13,7 +13,7 @@ use coo3d::point::Coo3D;
 ghost use mathlib.Core.Path.{_≡_};
 ghost use Rattle.special_points_finder.specs.Splits.{splitOf};
 ghost use Rattle.special_points_finder.specs.Plans.{slotAt, capSlotsAt};
-ghost use Rattle.special_points_finder.specs.Arcs.{noPiece, planInPc, planInEqr, slotsAt, arcAt};
+ghost use Rattle.special_points_finder.specs.Arcs.{planInPc, planInEqr, arcPlan, slotsAt, arcAt};
 
 // The five slots of an arc.
 pub struct Slots {
@@ -28,23 +28,14 @@ pub enum ArcAnswer {
     Unsplit,
 }
 
-fn no_piece() -> Slot
-    ensures { λ r. ⌜ r ≡ noPiece ⌝ }
-{
-    Slot {
-        steps: 0,
-        answer: Answer::NoPiece,
-    }
-}
-
 impl Piece {
     fn slots_in_pc(self, precision: f64, allowance: u8) -> CapSlots
         ensures { λ r. ⌜ r ≡ capSlotsAt allowance (planInPc self precision) ⌝ }
     {
         match self {
             Piece::Nothing => CapSlots {
-                first: no_piece(),
-                second: no_piece(),
+                first: Slot::without_walk(Answer::NoPiece),
+                second: Slot::without_walk(Answer::NoPiece),
             },
             Piece::Between { from, to } => {
                 cap::arc_special_point_in_pc(from, to, precision, allowance)
@@ -56,7 +47,7 @@ impl Piece {
         ensures { λ r. ⌜ r ≡ slotAt allowance (planInEqr self precision) ⌝ }
     {
         match self {
-            Piece::Nothing => no_piece(),
+            Piece::Nothing => Slot::without_walk(Answer::NoPiece),
             Piece::Between { from, to } => {
                 equator::arc_special_point_in_eqr(from, to, precision, allowance)
             }
@@ -66,7 +57,7 @@ impl Piece {
 
 impl Regions {
     fn slots(self, precision: f64, allowance: u8) -> Slots
-        ensures { λ r. ⌜ r ≡ slotsAt allowance self precision ⌝ }
+        ensures { λ r. ⌜ r ≡ slotsAt allowance (arcPlan self precision) ⌝ }
     {
         let south = self.south;
         let equator = self.equator;

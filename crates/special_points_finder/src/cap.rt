@@ -11,10 +11,10 @@ use coo3d::vect3;
 use coo3d::vect3::Vect3;
 use newton::slope;
 ghost use mathlib.Core.Path.{_≡_};
-ghost use Rattle.special_points_finder.specs.Caps.{intersectPointPc, quarterEnd, oddQuarter, pieceToEnd, pieceToLargerEnd, pieceFromStart, planAcrossZero, planPastZero, orderedPlanInPc, arcPlanInPc};
+ghost use Rattle.special_points_finder.specs.Caps.{intersectPointPc, quarterEnd, oddQuarter, endOfQuarter, startOfQuarter, pieceToEnd, pieceToLargerEnd, pieceFromStart, planAcrossZero, planWithinTurn, orderedPlanInPc, arcPlanInPc};
 ghost use Rattle.special_points_finder.specs.Plans.{capSlotsAt};
 
-// Where an arc in a cap, in the plane of normal normal, meets the plane of normal n; z is a height of the arc, for its sign.
+// Where an arc in a cap, in the plane with this normal, meets the plane with the normal n; z is a height of the arc, for its sign.
 fn intersect_point_pc(z: f64, normal: Vect3, n: Vect3) -> Coo3D
     ensures { λ r. ⌜ r ≡ intersectPointPc z normal n ⌝ }
 {
@@ -52,13 +52,24 @@ fn odd_quarter(lon: f64) -> bool
     quarter::quarter(lon) % 2 == 1
 }
 
+fn end_of_quarter(z: f64, normal: Vect3, p: Coo3D) -> Coo3D
+    ensures { λ r. ⌜ r ≡ endOfQuarter z normal p ⌝ }
+{
+    intersect_point_pc(z, normal, quarter_end(odd_quarter(p.lon)))
+}
+
+fn start_of_quarter(z: f64, normal: Vect3, p: Coo3D) -> Coo3D
+    ensures { λ r. ⌜ r ≡ startOfQuarter z normal p ⌝ }
+{
+    intersect_point_pc(z, normal, quarter_end(!odd_quarter(p.lon)))
+}
+
 // The piece from p to the end of its quarter; there is none if p lies at its start.
 fn piece_to_end(z: f64, normal: Vect3, p: Coo3D, precision: f64) -> Plan
     ensures { λ r. ⌜ r ≡ pieceToEnd z normal p precision ⌝ }
 {
     if quarter::lon_mod_half_pi(p.lon) > 0.0 {
-        let end = intersect_point_pc(z, normal, quarter_end(odd_quarter(p.lon)));
-        same_quarter::same_quarter_plan(p, end, precision)
+        same_quarter::same_quarter_plan(p, end_of_quarter(z, normal, p), precision)
     } else {
         Plan::NoPiece
     }
@@ -69,7 +80,7 @@ fn piece_to_larger_end(z: f64, normal: Vect3, p: Coo3D, precision: f64) -> Plan
     ensures { λ r. ⌜ r ≡ pieceToLargerEnd z normal p precision ⌝ }
 {
     if quarter::lon_mod_half_pi(p.lon) > 0.0 {
-        let end = intersect_point_pc(z, normal, quarter_end(odd_quarter(p.lon)));
+        let end = end_of_quarter(z, normal, p);
         if p.lon < end.lon {
             same_quarter::same_quarter_plan(p, end, precision)
         } else {
@@ -84,7 +95,7 @@ fn piece_to_larger_end(z: f64, normal: Vect3, p: Coo3D, precision: f64) -> Plan
 fn piece_from_start(z: f64, normal: Vect3, p: Coo3D, precision: f64) -> Plan
     ensures { λ r. ⌜ r ≡ pieceFromStart z normal p precision ⌝ }
 {
-    let start = intersect_point_pc(z, normal, quarter_end(!odd_quarter(p.lon)));
+    let start = start_of_quarter(z, normal, p);
     if start.lon < p.lon {
         same_quarter::same_quarter_plan(start, p, precision)
     } else {
@@ -92,21 +103,21 @@ fn piece_from_start(z: f64, normal: Vect3, p: Coo3D, precision: f64) -> Plan
     }
 }
 
-// The arc crosses longitude 0: from p2 to the end of its quarter, and from the start of p1's quarter to p1.
+// The arc crosses longitude 0: from the start of p1's quarter to p1, and from p2 to the end of its quarter.
 fn plan_across_zero(p1: Coo3D, p2: Coo3D, precision: f64) -> CapPlan
     ensures { λ r. ⌜ r ≡ planAcrossZero p1 p2 precision ⌝ }
 {
     let p2_x_p1 = vect3::cross_product(p2.vect(), p1.vect()).normalized();
-    let start = intersect_point_pc(p1.z, p2_x_p1, quarter_end(!odd_quarter(p1.lon)));
+    let start = start_of_quarter(p1.z, p2_x_p1, p1);
     CapPlan {
         first: same_quarter::same_quarter_plan(start, p1, precision),
         second: piece_to_larger_end(p1.z, p2_x_p1, p2, precision),
     }
 }
 
-// It does not: from p1 to the end of its quarter, and from the start of p2's quarter to p2.
-fn plan_past_zero(p1: Coo3D, p2: Coo3D, precision: f64) -> CapPlan
-    ensures { λ r. ⌜ r ≡ planPastZero p1 p2 precision ⌝ }
+// The arc does not cross longitude 0: from p1 to the end of its quarter, and from the start of p2's quarter to p2.
+fn plan_within_turn(p1: Coo3D, p2: Coo3D, precision: f64) -> CapPlan
+    ensures { λ r. ⌜ r ≡ planWithinTurn p1 p2 precision ⌝ }
 {
     let p1_x_p2 = vect3::cross_product(p1.vect(), p2.vect()).normalized();
     CapPlan {
@@ -127,11 +138,11 @@ fn ordered_plan_in_pc(p1: Coo3D, p2: Coo3D, precision: f64) -> CapPlan
     } else if p2.lon - p1.lon > PI {
         plan_across_zero(p1, p2, precision)
     } else {
-        plan_past_zero(p1, p2, precision)
+        plan_within_turn(p1, p2, precision)
     }
 }
 
-pub fn arc_plan_in_pc(p1: Coo3D, p2: Coo3D, precision: f64) -> CapPlan
+fn arc_plan_in_pc(p1: Coo3D, p2: Coo3D, precision: f64) -> CapPlan
     ensures { λ r. ⌜ r ≡ arcPlanInPc p1 p2 precision ⌝ }
 {
     if p1.lon > p2.lon {

@@ -3,7 +3,7 @@
 use super::answer::Slot;
 use super::ending::Ending;
 use super::plan::Plan;
-use super::region;
+use newton::region;
 use newton::slope::Cone;
 use newton::slope::Slope;
 use newton::walk;

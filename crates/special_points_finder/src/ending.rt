@@ -2,16 +2,16 @@
 
 use super::answer;
 use super::answer::Answer;
-use super::region;
 use angles::float;
 use coo3d::point::Coo3D;
 use coo3d::vect3::Vect3;
 use crossing::great_arc::GreatArc;
 use crossing::parallel;
+use newton::region;
 ghost use mathlib.Core.Path.{_≡_};
 ghost use Rattle.special_points_finder.specs.Endings.{acceptedEqr, acceptedNpc, eqrArc, pcArc, eqrCone, pcCone, answerAt};
 
-// A piece of an arc in a cap: its ends, and their heights in the first quarter of the north cap.
+// A piece of an arc in a cap: its ends, and their heights once it is moved to the first quarter and, where it is in the south, negated.
 pub struct CapArc {
     pub p1: Vect3,
     pub p2: Vect3,

@@ -3,10 +3,10 @@
 use super::answer::Slot;
 use super::ending::Ending;
 use super::plan::Plan;
-use super::region;
 use angles::float;
 use coo3d::point::Coo3D;
 use crossing::great_arc::GreatArc;
+use newton::region;
 use newton::slope;
 use newton::slope::Cone;
 use newton::slope::Slope;
@@ -26,7 +26,7 @@ fn slope_in_eqr(z0: f64) -> Slope
     }
 }
 
-pub fn arc_plan_in_eqr(p1: Coo3D, p2: Coo3D, precision: f64) -> Plan
+fn arc_plan_in_eqr(p1: Coo3D, p2: Coo3D, precision: f64) -> Plan
     ensures { λ r. ⌜ r ≡ arcPlanInEqr p1 p2 precision ⌝ }
 {
     let arc = GreatArc::new(p1.vect(), p2.vect());

@@ -9,6 +9,5 @@ pub mod cone;
 pub mod ending;
 pub mod equator;
 pub mod plan;
-pub mod region;
 pub mod same_quarter;
 pub mod split;

@@ -25,14 +25,8 @@ impl Plan {
         ensures { λ r. ⌜ r ≡ slotAt allowance self ⌝ }
     {
         match self {
-            Plan::NoPiece => Slot {
-                steps: 0,
-                answer: Answer::NoPiece,
-            },
-            Plan::NoWalk => Slot {
-                steps: 0,
-                answer: Answer::NoWalk,
-            },
+            Plan::NoPiece => Slot::without_walk(Answer::NoPiece),
+            Plan::NoWalk => Slot::without_walk(Answer::NoWalk),
             Plan::Begins { start, ending } => {
                 let w = start.walked(allowance);
                 Slot {

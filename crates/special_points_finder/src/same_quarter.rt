@@ -3,7 +3,6 @@
 use super::ending::CapArc;
 use super::ending::Ending;
 use super::plan::Plan;
-use super::region;
 use angles::PI;
 use angles::float;
 use coo3d::point::Coo3D;
@@ -11,16 +10,17 @@ use coo3d::quarter;
 use coo3d::vect3;
 use coo3d::vect3::Vect3;
 use crossing::parallel;
+use newton::region;
 use newton::slope;
 use newton::slope::Cone;
 use newton::slope::Slope;
 use newton::walk;
 use newton::walk::Start;
 ghost use mathlib.Core.Path.{_≡_};
-ghost use Rattle.special_points_finder.specs.SameQuarter.{centreOf, endLon, quarterPiece, startingChoice, piecePlan, sameQuarterPlan};
+ghost use Rattle.special_points_finder.specs.SameQuarter.{centerOf, endLon, quarterPiece, startingChoice, piecePlan, sameQuarterPlan};
 
 // The height and the longitude of the cone's centre.
-struct Centre {
+struct Center {
     z: f64,
     lon: f64,
 }
@@ -35,19 +35,19 @@ struct QuarterPiece {
 }
 
 // The normal of the plane through both, or its opposite, so that the longitude is at most π.
-fn cone_center(v1: Vect3, v2: Vect3) -> Centre
-    ensures { λ r. ⌜ r ≡ centreOf v1 v2 ⌝ }
+fn cone_center(v1: Vect3, v2: Vect3) -> Center
+    ensures { λ r. ⌜ r ≡ centerOf v1 v2 ⌝ }
 {
     let n = vect3::cross_product(v1, v2).normalized();
     let lon = n.lon();
     if lon > PI {
         let o = n.opposite();
-        Centre {
+        Center {
             z: o.z,
             lon: o.lon(),
         }
     } else {
-        Centre { z: n.z, lon }
+        Center { z: n.z, lon }
     }
 }
 

@@ -18,8 +18,8 @@ same-quarter-plan-requires c κs = search needs
 plan-across-zero-requires : tie.Need-plan-across-zero-requires
 plan-across-zero-requires c κs = search needs
 
-plan-past-zero-requires : tie.Need-plan-past-zero-requires
-plan-past-zero-requires c κs = search needs
+plan-within-turn-requires : tie.Need-plan-within-turn-requires
+plan-within-turn-requires c κs = search needs
 
 returns : tie.Need-returns
 unfolding orderedPlanInPc
@@ -31,7 +31,7 @@ returns-2 c = simp (← c .plan-across-zero .ensures, c .before .if2 .taken, ne-
 
 returns-3 : tie.Need-returns-3
 unfolding orderedPlanInPc
-returns-3 c = simp (← c .plan-past-zero .ensures, c .before .if2 .left, ne-eqb _ _ (c .before .before .before .before .if1 .left), ← c .before .before .before .before .before .quarter2 .ensures, ← c .before .before .before .before .before .before .quarter .ensures)
+returns-3 c = simp (← c .plan-within-turn .ensures, c .before .if2 .left, ne-eqb _ _ (c .before .before .before .before .if1 .left), ← c .before .before .before .before .before .quarter2 .ensures, ← c .before .before .before .before .before .before .quarter .ensures)
 
 pub ordered-plan-in-pc-spec : {M : Type 1} → statement M
-ordered-plan-in-pc-spec = tie.close (tie.spec quarter-requires quarter-requires-2 same-quarter-plan-requires plan-across-zero-requires plan-past-zero-requires returns returns-2 returns-3)
+ordered-plan-in-pc-spec = tie.close (tie.spec quarter-requires quarter-requires-2 same-quarter-plan-requires plan-across-zero-requires plan-within-turn-requires returns returns-2 returns-3)

@@ -16,14 +16,8 @@ cross-product-requires c κs = search needs
 normalized-requires : tie.Need-normalized-requires
 normalized-requires c κs = search needs
 
-odd-quarter-requires : tie.Need-odd-quarter-requires
-odd-quarter-requires c κs = search needs
-
-quarter-end-requires : tie.Need-quarter-end-requires
-quarter-end-requires c κs = search needs
-
-intersect-point-pc-requires : tie.Need-intersect-point-pc-requires
-intersect-point-pc-requires c κs = search needs
+start-of-quarter-requires : tie.Need-start-of-quarter-requires
+start-of-quarter-requires c κs = search needs
 
 same-quarter-plan-requires : tie.Need-same-quarter-plan-requires
 same-quarter-plan-requires c κs = search needs
@@ -33,7 +27,7 @@ piece-to-larger-end-requires c κs = search needs
 
 returns : tie.Need-returns
 unfolding planAcrossZero
-returns c = simp (← c .piece-to-larger-end .ensures, ← c .before .same-quarter-plan .ensures, ← c .before .before .intersect-point-pc .ensures, ← c .before .before .before .quarter-end .ensures, ← c .before .before .before .before .odd-quarter .ensures, ← c .before .before .before .before .before .normalized .ensures, ← c .before .before .before .before .before .before .cross-product .ensures, ← c .before .before .before .before .before .before .before .vect2 .ensures, ← c .before .before .before .before .before .before .before .before .vect .ensures)
+returns c = simp (← c .piece-to-larger-end .ensures, ← c .before .same-quarter-plan .ensures, ← c .before .before .start-of-quarter .ensures, ← c .before .before .before .normalized .ensures, ← c .before .before .before .before .cross-product .ensures, ← c .before .before .before .before .before .vect2 .ensures, ← c .before .before .before .before .before .before .vect .ensures)
 
 pub plan-across-zero-spec : {M : Type 1} → statement M
-plan-across-zero-spec = tie.close (tie.spec vect-requires vect-requires-2 cross-product-requires normalized-requires odd-quarter-requires quarter-end-requires intersect-point-pc-requires same-quarter-plan-requires piece-to-larger-end-requires returns)
+plan-across-zero-spec = tie.close (tie.spec vect-requires vect-requires-2 cross-product-requires normalized-requires start-of-quarter-requires same-quarter-plan-requires piece-to-larger-end-requires returns)

@@ -1,5 +1,5 @@
--- Each return is the branch of `centreOf` that the tests chose; the callees' contracts give the values in it.
-use Rattle.special_points_finder.specs.SameQuarter.{centreOf}
+-- Each return is the branch of `centerOf` that the tests chose; the callees' contracts give the values in it.
+use Rattle.special_points_finder.specs.SameQuarter.{centerOf}
 use borrow.Author.Needs.{needs}
 use Rattle.special_points_finder.proofs.same_quarter.cone_center.Statement.{statement}
 use Rattle.special_points_finder.proofs.same_quarter.cone_center.Tie as tie
@@ -20,11 +20,11 @@ lon-requires-2 : tie.Need-lon-requires-2
 lon-requires-2 c κs = search needs
 
 returns : tie.Need-returns
-unfolding centreOf
+unfolding centerOf
 returns c = simp (← c .lon2 .ensures, ← c .before .opposite .ensures, c .before .before .if1 .taken, ← c .before .before .before .lon .ensures, ← c .before .before .before .before .normalized .ensures, ← c .before .before .before .before .before .cross-product .ensures)
 
 returns-2 : tie.Need-returns-2
-unfolding centreOf
+unfolding centerOf
 returns-2 c = simp (c .if1 .left, ← c .before .lon .ensures, ← c .before .before .normalized .ensures, ← c .before .before .before .cross-product .ensures)
 
 pub cone-center-spec : {M : Type 1} → statement M

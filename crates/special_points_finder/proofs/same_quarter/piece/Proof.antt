@@ -1,4 +1,5 @@
 -- The callees' contracts give the values in `quarterPiece`.
+use mathlib.Core.Bool.{xor}
 use Rattle.special_points_finder.specs.SameQuarter.{quarterPiece}
 use borrow.Author.Needs.{needs}
 use Rattle.special_points_finder.proofs.same_quarter.piece.Statement.{statement}
@@ -35,7 +36,7 @@ mirrored-requires-4 : tie.Need-mirrored-requires-4
 mirrored-requires-4 c κs = search needs
 
 returns : tie.Need-returns
-unfolding quarterPiece
+unfolding quarterPiece xor
 returns c = simp (← c .mirrored4 .ensures, ← c .before .mirrored3 .ensures, ← c .before .before .mirrored2 .ensures, ← c .before .before .before .direction .ensures, ← c .before .before .before .before .cte-npc .ensures, ← c .before .before .before .before .before .new .ensures, ← c .before .before .before .before .before .before .mirrored .ensures, ← c .before .before .before .before .before .before .before .before .before .before .before .before .before .before .cone-center .ensures, ← c .before .before .before .before .before .before .before .before .before .before .before .before .before .before .before .vect2 .ensures, ← c .before .before .before .before .before .before .before .before .before .before .before .before .before .before .before .before .vect .ensures)
 
 pub piece-spec : {M : Type 1} → statement M

@@ -1,5 +1,5 @@
--- Each return is the case of `planInEqr` that the match found; the contracts of `arc_special_point_in_eqr` and `no_piece` give the values in it.
-use Rattle.special_points_finder.specs.Arcs.{planInEqr, noPiece}
+-- Each return is the case of `planInEqr` that the match found; the contracts of `arc_special_point_in_eqr` and `without_walk` give the values in it.
+use Rattle.special_points_finder.specs.Arcs.{planInEqr}
 use Rattle.special_points_finder.specs.Plans.{slotAt}
 use borrow.Author.Needs.{needs}
 use Rattle.special_points_finder.proofs.split.Piece.slot_in_eqr.Statement.{statement}
@@ -8,8 +8,8 @@ use Rattle.special_points_finder.proofs.split.Piece.slot_in_eqr.Tie as 
 enum-told : tie.Need-enum-told
 enum-told c = search needs
 
-no-piece-requires : tie.Need-no-piece-requires
-no-piece-requires c κs = search needs
+without-walk-requires : tie.Need-without-walk-requires
+without-walk-requires c κs = search needs
 
 enum-known-self : tie.Need-enum-known-self
 enum-known-self c = search needs
@@ -18,12 +18,12 @@ arc-special-point-in-eqr-requires : tie.Need-arc-special-point-in-eqr-requires
 arc-special-point-in-eqr-requires c κs = search needs
 
 returns : tie.Need-returns
-unfolding planInEqr slotAt noPiece
-returns c = simp (← c .no-piece .ensures, c .before .enum-told .given .1)
+unfolding planInEqr slotAt
+returns c = simp (← c .without-walk .ensures, c .before .enum-told .given .1)
 
 returns-2 : tie.Need-returns-2
-unfolding planInEqr slotAt noPiece
+unfolding planInEqr slotAt
 returns-2 c = simp (← c .arc-special-point-in-eqr .ensures, c .before .before .self .given .1)
 
 pub slot-in-eqr-spec : {M : Type 1} → statement M
-slot-in-eqr-spec = tie.close (tie.spec enum-told no-piece-requires enum-known-self arc-special-point-in-eqr-requires returns returns-2)
+slot-in-eqr-spec = tie.close (tie.spec enum-told without-walk-requires enum-known-self arc-special-point-in-eqr-requires returns returns-2)

@@ -1,5 +1,5 @@
--- Each return is the case of `planInPc` that the match found; the contracts of `arc_special_point_in_pc` and `no_piece` give the values in it.
-use Rattle.special_points_finder.specs.Arcs.{planInPc, noPiece}
+-- Each return is the case of `planInPc` that the match found; the contracts of `arc_special_point_in_pc` and `without_walk` give the values in it.
+use Rattle.special_points_finder.specs.Arcs.{planInPc}
 use Rattle.special_points_finder.specs.Plans.{capSlotsAt, slotAt}
 use borrow.Author.Needs.{needs}
 use Rattle.special_points_finder.proofs.split.Piece.slots_in_pc.Statement.{statement}
@@ -8,11 +8,11 @@ use Rattle.special_points_finder.proofs.split.Piece.slots_in_pc.Tie as 
 enum-told : tie.Need-enum-told
 enum-told c = search needs
 
-no-piece-requires : tie.Need-no-piece-requires
-no-piece-requires c κs = search needs
+without-walk-requires : tie.Need-without-walk-requires
+without-walk-requires c κs = search needs
 
-no-piece-requires-2 : tie.Need-no-piece-requires-2
-no-piece-requires-2 c κs = search needs
+without-walk-requires-2 : tie.Need-without-walk-requires-2
+without-walk-requires-2 c κs = search needs
 
 enum-known-self : tie.Need-enum-known-self
 enum-known-self c = search needs
@@ -21,12 +21,12 @@ arc-special-point-in-pc-requires : tie.Need-arc-special-point-in-pc-requires
 arc-special-point-in-pc-requires c κs = search needs
 
 returns : tie.Need-returns
-unfolding planInPc capSlotsAt slotAt noPiece
-returns c = simp (c .no-piece2 .ensures, c .before .no-piece .ensures, c .before .before .enum-told .given .1)
+unfolding planInPc capSlotsAt slotAt
+returns c = simp (c .without-walk2 .ensures, c .before .without-walk .ensures, c .before .before .enum-told .given .1)
 
 returns-2 : tie.Need-returns-2
-unfolding planInPc capSlotsAt slotAt noPiece
+unfolding planInPc capSlotsAt slotAt
 returns-2 c = simp (← c .arc-special-point-in-pc .ensures, c .before .before .self .given .1)
 
 pub slots-in-pc-spec : {M : Type 1} → statement M
-slots-in-pc-spec = tie.close (tie.spec enum-told no-piece-requires no-piece-requires-2 enum-known-self arc-special-point-in-pc-requires returns returns-2)
+slots-in-pc-spec = tie.close (tie.spec enum-told without-walk-requires without-walk-requires-2 enum-known-self arc-special-point-in-pc-requires returns returns-2)

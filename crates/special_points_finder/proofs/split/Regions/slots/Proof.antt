@@ -1,5 +1,5 @@
 -- The contracts of `slot_in_eqr` and `slots_in_pc` give the values in `slotsAt`.
-use Rattle.special_points_finder.specs.Arcs.{slotsAt}
+use Rattle.special_points_finder.specs.Arcs.{slotsAt, arcPlan}
 use borrow.Author.Needs.{needs}
 use Rattle.special_points_finder.proofs.split.Regions.slots.Statement.{statement}
 use Rattle.special_points_finder.proofs.split.Regions.slots.Tie as tie
@@ -14,7 +14,7 @@ slots-in-pc-requires-2 : tie.Need-slots-in-pc-requires-2
 slots-in-pc-requires-2 c κs = search needs
 
 returns : tie.Need-returns
-unfolding slotsAt
+unfolding slotsAt arcPlan
 returns c = simp (← c .slots-in-pc2 .ensures, ← c .before .slot-in-eqr .ensures, ← c .before .before .slots-in-pc .ensures)
 
 pub slots-spec : {M : Type 1} → statement M
