@@ -1,4 +1,4 @@
-//! The angle functions of document 01's "Root and angles", which stand in for the library's on both sides of every comparison.
+//! The angle functions of document 01's "Root and angles" in Rust: they stand in for the library's on the reference's side of every comparison.
 
 use std::f64::consts::{FRAC_PI_2, FRAC_PI_4, PI};
 

@@ -5,7 +5,7 @@ use mathlib.Core.Bool.{Bool}
 use Rattle.coo3d.specs.Points.{fromSphCoo, vectOf}
 use Rattle.coo3d.specs.declared.point.Coo3D.{Coo3D}
 use Rattle.crossing.specs.Parallels.{intersectParallel}
-use Rattle.special_points_finder.specs.Answers.{slotOf, numbersOf, crossedOf}
+use Rattle.special_points_finder.specs.Answers.{withoutWalk, numbersOf, crossedOf}
 use Rattle.special_points_finder.specs.Plans.{slotAt}
 use Rattle.special_points_finder.specs.Cones.{conePlanInEqr, conePlanInPc}
 use Rattle.special_points_finder.specs.Splits.{splitOf}
@@ -22,8 +22,8 @@ use Rattle.finder_calls.specs.declared.ArcNumbers.{ArcNumbers}
 abbrev float : ℕ → Float
 float bits = ofBits binary64 bits
 
-unfoldable pub pointOf : ℕ → ℕ → Coo3D
-pointOf lon lat = fromSphCoo (float lon) (float lat)
+unfoldable pub endOf : ℕ → ℕ → Coo3D
+endOf lon lat = fromSphCoo (float lon) (float lat)
 
 unfoldable pub slotNumbers : Slot → SlotNumbers
 slotNumbers s =
@@ -46,7 +46,7 @@ arcNumbers Unsplit = record { status = 10; south = zeroCap; equator = zeroSlot; 
 
 unfoldable pub arcCall : ℕ → ℕ → ℕ → ℕ → ℕ → ℕ → ArcNumbers
 arcCall lon1 lat1 lon2 lat2 precision allowance =
-    arcNumbers (arcAt allowance (splitOf (pointOf lon1 lat1) (pointOf lon2 lat2)) (float precision))
+    arcNumbers (arcAt allowance (splitOf (endOf lon1 lat1) (endOf lon2 lat2)) (float precision))
 
 unfoldable pub eqrConeCall : ℕ → ℕ → ℕ → Bool → ℕ → ℕ → SlotNumbers
 eqrConeCall z z0 radius north precision allowance =
@@ -59,4 +59,4 @@ pcConeCall z lon z0 radius east north precision allowance =
 
 unfoldable pub parallelCall : ℕ → ℕ → ℕ → ℕ → ℕ → SlotNumbers
 parallelCall lon1 lat1 lon2 lat2 z =
-    slotNumbers (slotOf 0 (crossedOf (intersectParallel (vectOf (pointOf lon1 lat1)) (vectOf (pointOf lon2 lat2)) (float z))))
+    slotNumbers (withoutWalk (crossedOf (intersectParallel (vectOf (endOf lon1 lat1)) (vectOf (endOf lon2 lat2)) (float z))))

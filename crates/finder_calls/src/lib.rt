@@ -10,7 +10,7 @@ use special_points_finder::arc;
 use special_points_finder::arc::ArcAnswer;
 use special_points_finder::cone;
 ghost use mathlib.Core.Path.{_≡_};
-ghost use Rattle.finder_calls.specs.Calls.{pointOf, slotNumbers, capNumbers, arcNumbers, arcCall, eqrConeCall, pcConeCall, parallelCall};
+ghost use Rattle.finder_calls.specs.Calls.{endOf, slotNumbers, capNumbers, arcNumbers, arcCall, eqrConeCall, pcConeCall, parallelCall};
 
 #[repr(C)]
 pub struct SlotNumbers {
@@ -35,7 +35,7 @@ pub struct ArcNumbers {
 }
 
 fn point(lon: u64, lat: u64) -> Coo3D
-    ensures { λ r. ⌜ r ≡ pointOf lon lat ⌝ }
+    ensures { λ r. ⌜ r ≡ endOf lon lat ⌝ }
 {
     Coo3D::from_sph_coo(patterns::float_of(lon), patterns::float_of(lat))
 }
@@ -164,8 +164,6 @@ pub extern "C" fn finder_parallel(lon1: u64, lat1: u64, lon2: u64, lat2: u64, z:
 {
     let p1 = point(lon1, lat1).vect();
     let p2 = point(lon2, lat2).vect();
-    slot_numbers(Slot {
-        steps: 0,
-        answer: answer::crossed(parallel::intersect_parallel(p1, p2, patterns::float_of(z))),
-    })
+    let c = parallel::intersect_parallel(p1, p2, patterns::float_of(z));
+    slot_numbers(Slot::without_walk(answer::crossed(c)))
 }

@@ -1,5 +1,6 @@
--- Where both heights are numbers, a height that has to split the arc lies strictly between them, as of two numbers one that is not below or equal
--- to the other is above it. A crossing there goes by one of the three rules, which never end in kind 4; so where a cut fails it is kind 5.
+-- Status 10 comes with kind 5 only, where both heights are numbers: `OnlyKind5` (specs/Splits.antt). A height that has to split the arc lies
+-- strictly between those of the ends, as of two numbers one that is not below or equal to the other is above it; a crossing there goes by one
+-- of the three rules, which never end in kind 4.
 use lib.Ieee.{Float, nan, inf, fin, neg, ofBits, lt, le, eq, ne, up, down, below, level}
 use lib.Dec.{ltb, eqb}
 use borrow.Author.Tests.{ltb-false, eqb-false, lt-ltb}
@@ -25,7 +26,7 @@ use Rattle.special_points_finder.specs.declared.split.Piece.the-variants
 use Rattle.special_points_finder.specs.declared.split.Cut.{Cut}
 use Rattle.special_points_finder.specs.declared.split.Cut.the-variants as cut
 use Rattle.special_points_finder.specs.declared.split.Split.the-variants.{Failed}
-use Rattle.special_points_finder.specs.Splits.{cutOf, cutBy, splitInto, splitFrom, splitAtCuts, fromSouth, toNorth, splitAtTransitions, inNorth, inSouth, inEquator, splitOrdered, isNumber, SplitHasNoRoot, OnlyKind5}
+use Rattle.special_points_finder.specs.Splits.{cutOf, cutBy, splitInto, splitFrom, splitAtCuts, fromSouth, toNorth, splitAtTransitions, inNorth, inSouth, inEquator, splitOrdered, splitOf, isNumber, SplitHasNoRoot, OnlyKind5}
 
 neither : (a b : Bool) → (a || b) ≡ false → (a ≡ false) × (b ≡ false)
 neither true b h = absurd (true≢false h)
@@ -77,7 +78,7 @@ above (fin s m e) (inf true) p q h = refl
 above (fin s m e) (inf false) p q h = absurd (true≢false h)
 above (fin s m e) (fin t n d) p q h = above-by s t (m * up e * down d) (n * up d * down e) h
 
--- f: the arc comes from the south cap; g: it comes from the equatorial region; x: it ends there
+-- f: the arc starts below −T; g: it starts at or above −T; x: it ends at or below T
 to-north : (f g x : Bool) → (g ≡ false → f ≡ true) → not (f && x) ≡ true → (g && x) ≡ false → x ≡ false
 to-north f g false e h k = refl
 to-north true g true e h k = sym h
@@ -147,10 +148,9 @@ module _ (p1 p2 : Coo3D) (n1 : isNumber (p1 .z)) (n2 : isNumber (p2 .z)) where
       (λ u. inr (cut-failed (toNorth p1 p2) (intersectParallel (vectOf p1) (vectOf p2) transitionZ) (upper hn he) u))
       (cuts-failed p1 p2 _ _ h)
 
--- Status 10 comes with kind 5 only, where both heights are numbers.
-pub only-kind-5 : OnlyKind5
+ordered : (p1 p2 : Coo3D) → isNumber (p1 .z) → isNumber (p2 .z) → splitOrdered p1 p2 ≡ Failed → SplitHasNoRoot p1 p2
 unfolding splitOrdered splitInto
-only-kind-5 p1 p2 n1 n2 h = by (inNorth p1) (inSouth p2) (inEquator p1 p2) refl refl refl h
+ordered p1 p2 n1 n2 h = by (inNorth p1) (inSouth p2) (inEquator p1 p2) refl refl refl h
   where
     by : (x y z : Bool) → inNorth p1 ≡ x → inSouth p2 ≡ y → inEquator p1 p2 ≡ z
         → cond x (splitInto Nothing Nothing (Between p1 p2))
@@ -162,3 +162,11 @@ only-kind-5 p1 p2 n1 n2 h = by (inNorth p1) (inSouth p2) (inEquator p1 p2) refl 
     by false true z hn hs he f = let e : _≡_ {A = ℕ} 0 1 = cc in absurd (omega arith)
     by false false true hn hs he f = let e : _≡_ {A = ℕ} 0 1 = cc in absurd (omega arith)
     by false false false hn hs he f = several p1 p2 n1 n2 hn hs he f
+
+pub only-kind-5 : OnlyKind5
+unfolding splitOf
+only-kind-5 p1 p2 n1 n2 h = by (lt (p2 .z) (p1 .z)) h
+  where
+    by : (x : Bool) → cond x (splitOrdered p2 p1) (splitOrdered p1 p2) ≡ Failed → SplitHasNoRoot p1 p2 ⊎ SplitHasNoRoot p2 p1
+    by true f = inr (ordered p2 p1 n2 n1 f)
+    by false f = inl (ordered p1 p2 n1 n2 f)

@@ -1,4 +1,4 @@
--- What two allowances have to do with slots, and with a whole arc. Definition and claims; `proofs/Allowances.antt` proves them.
+-- Document 01, "Walks": what two allowances have to do with the slots of any plans, and with a whole arc. Definition and claims; `proofs/Allowances.antt` proves them.
 use lib.Ieee.{Float}
 use Prim.Native.Nat.{ℕ}
 use mathlib.Core.Path.{_≡_}

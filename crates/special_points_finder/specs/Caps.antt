@@ -2,7 +2,7 @@
 use lib.Ieee.{Float, lt}
 use lib.Dec.{eqb}
 use Prim.Native.Nat.{_%_}
-use mathlib.Core.Bool.{Bool, cond, not}
+use mathlib.Core.Bool.{Bool, cond, not, _&&_}
 use Rattle.angles.specs.Floats.{_⊖_, plusZero, one}
 use Rattle.angles.specs.Constants.{pi}
 use Rattle.coo3d.specs.Vectors.{vect, crossOf, normalizedOf, oppositeOf}
@@ -17,6 +17,7 @@ use Rattle.special_points_finder.specs.declared.plan.Plan.{Plan}
 use Rattle.special_points_finder.specs.declared.plan.Plan.the-variants.{NoPiece}
 use Rattle.special_points_finder.specs.declared.plan.CapPlan.{CapPlan}
 
+-- the point of a vector, the source's `Coo3D::from`
 abbrev pub pointOf : Vect3 → Coo3D
 pointOf v = fromVec3 (v .x) (v .y) (v .z)
 
@@ -49,9 +50,7 @@ pieceToEnd z normal p precision =
 unfoldable pub pieceToLargerEnd : Float → Vect3 → Coo3D → Float → Plan
 pieceToLargerEnd z normal p precision =
     let end = endOfQuarter z normal p in
-    cond (lt plusZero (lonModHalfPi (p .lon)))
-    (cond (lt (p .lon) (end .lon)) (sameQuarterPlan p end precision) NoPiece)
-    NoPiece
+    cond (lt plusZero (lonModHalfPi (p .lon)) && lt (p .lon) (end .lon)) (sameQuarterPlan p end precision) NoPiece
 
 -- from the start of p's quarter to p, if the start has the smaller longitude
 unfoldable pub pieceFromStart : Float → Vect3 → Coo3D → Float → Plan

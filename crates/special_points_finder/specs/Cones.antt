@@ -1,4 +1,4 @@
--- Document 01, codes 04 and 05: a walk begins once for each cone. Definitions only.
+-- Document 01, "Walks": a walk begins once in each job of code 04 or 05. Definitions only.
 use lib.Ieee.{Float, lt}
 use mathlib.Core.Bool.{Bool, xor}
 use Rattle.angles.specs.Floats.{_⊖_, _⊗_, plusZero, one}

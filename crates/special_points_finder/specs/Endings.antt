@@ -1,4 +1,5 @@
--- What the height that a walk ends at is taken through, as the source has it after each of its four loops. Definitions only.
+-- What the height that a walk ends at is taken through, as the source has it after each of its four loops; one that is not accepted is
+-- kind 2. Definitions only.
 use lib.Ieee.{Float, lt, le}
 use mathlib.Core.Bool.{Bool, cond, _&&_, _||_}
 use Rattle.angles.specs.Floats.{absOf, finiteOf}
@@ -13,9 +14,13 @@ use Rattle.special_points_finder.specs.declared.ending.CapArc.{CapArc}
 use Rattle.special_points_finder.specs.declared.ending.Ending.{Ending}
 use Rattle.special_points_finder.specs.declared.ending.Ending.the-variants.{EqrArc, PcArc, EqrCone, PcCone}
 
--- in the equatorial region, and from z1 to z2 with both included
-unfoldable pub acceptedEqr : Float → Float → Float → Bool
-acceptedEqr z1 z z2 = lt (absOf z) transitionZ && ((le z1 z2 && le z1 z && le z z2) || (lt z2 z1 && le z2 z && le z z1))
+-- in the equatorial region
+unfoldable pub acceptedEqr : Float → Bool
+acceptedEqr z = lt (absOf z) transitionZ
+
+-- z from z1 to z2, or from z2 to z1, both included
+unfoldable pub fromEndToEnd : Float → Float → Float → Bool
+fromEndToEnd z1 z z2 = (le z1 z2 && le z1 z && le z z2) || (lt z2 z1 && le z2 z && le z z1)
 
 -- in the north cap
 unfoldable pub acceptedNpc : Float → Bool
@@ -23,7 +28,8 @@ acceptedNpc z = finiteOf z && lt transitionZ z
 
 -- `arc_special_point_in_eqr`
 unfoldable pub eqrArc : GreatArc → Float → Answer
-eqrArc arc z = cond (acceptedEqr (arc .p1 .z) z (arc .p2 .z)) (crossedOf (crossingOf arc z)) Rejected
+eqrArc arc z =
+    cond (acceptedEqr z && fromEndToEnd (arc .p1 .z) z (arc .p2 .z)) (crossedOf (crossingOf arc z)) Rejected
 
 -- `arc_special_point_in_pc_same_quarter`
 unfoldable pub pcArc : CapArc → Float → Answer
@@ -34,7 +40,7 @@ pcArc arc z =
 
 -- `cone_special_point_in_eqr`
 unfoldable pub eqrCone : Float → Answer
-eqrCone z = cond (lt (absOf z) transitionZ) (Height z) Rejected
+eqrCone z = cond (acceptedEqr z) (Height z) Rejected
 
 -- `cone_special_point_in_pc`
 unfoldable pub pcCone : Bool → Float → Answer

@@ -38,20 +38,20 @@ endLon lon = cond (eq lon plusZero) halfPi lon
 unfoldable pub quarterPiece : Coo3D → Coo3D → QuarterPiece
 quarterPiece v1 v2 =
     let center = centerOf (vectOf v1) (vectOf v2) in
-    let northValue = lt (center .z) plusZero in
-    let eastValue = xor (xor (lt (v2 .lat) (v1 .lat)) (lt (v2 .lon) (v1 .lon))) (not northValue) in
+    let north = lt (center .z) plusZero in
+    let east = xor (xor (lt (v2 .lat) (v1 .lat)) (lt (v2 .lon) (v1 .lon))) (not north) in
     let mean = half ⊗ (v1 .z ⊕ v2 .z) in
-    let spc = lt mean plusZero in
-    let cone = coneOf (mirroredOf spc (center .z)) plusZero in
+    let south = lt mean plusZero in
+    let cone = coneOf (mirroredOf south (center .z)) plusZero in
     record {
-      south = spc;
-      slope = Polar cone (center .lon) (cteNpc (xor northValue spc)) (directionOf eastValue);
-      z = mirroredOf spc mean;
-      z1 = mirroredOf spc (v1 .z);
-      z2 = mirroredOf spc (v2 .z);
+      south = south;
+      slope = Polar cone (center .lon) (cteNpc (xor north south)) (directionOf east);
+      z = mirroredOf south mean;
+      z1 = mirroredOf south (v1 .z);
+      z2 = mirroredOf south (v2 .z);
     }
 
--- the polar starting choice (up to three evaluations)
+-- the polar starting choice (up to three evaluations): one step from the mean; where that is not strictly between the ends, from z2, then from z1
 unfoldable pub startingChoice : QuarterPiece → Float
 startingChoice p =
     let a = p .z ⊖ ratioAt (p .slope) (p .z) in
@@ -60,7 +60,7 @@ startingChoice p =
     (cond (strictlyBetween (p .z1) b (p .z2)) b
     (p .z1 ⊖ ratioAt (p .slope) (p .z1)))
 
--- no walk where the slopes at the ends have the same sign
+-- kind 1, "signs the same", or a walk with h = |z2 − z1| of `v1` and `v2`; a and b are the piece's own ends, for the crossing after it
 unfoldable pub piecePlan : QuarterPiece → Vect3 → Vect3 → Float → Plan
 piecePlan p a b precision =
     cond (haveSameSign (slopeAt (p .slope) (p .z1)) (slopeAt (p .slope) (p .z2))) NoWalk
@@ -68,7 +68,7 @@ piecePlan p a b precision =
     (startOf (p .slope) (limitOf precision (absOf (p .z2 ⊖ p .z1))) (startingChoice p))
     (PcArc (record { p1 = a; p2 = b; south = p .south; z1 = p .z1; z2 = p .z2 })))
 
--- nor where the longitudes are equal
+-- kind 1, "longitudes equal"; else the piece is moved to the first quarter
 unfoldable pub sameQuarterPlan : Coo3D → Coo3D → Float → Plan
 sameQuarterPlan p1 p2 precision =
     let v1 = fromSphCoo (lonModHalfPi (p1 .lon)) (p1 .lat) in

@@ -1,4 +1,5 @@
--- The split of an arc at −T and T, before any walk: the cases of the source's `arc_special_points`. Definitions only.
+-- Document 01, "Refusals", 10: the split of an arc at −T and T, before any walk, by the cases of the source's `arc_special_points`. Definitions and
+-- a claim.
 use lib.Ieee.{Float, neg, lt, le, ne}
 use mathlib.Core.Path.{_≡_}
 use mathlib.Core.Logic.{_⊎_}
@@ -23,12 +24,13 @@ use Rattle.special_points_finder.specs.declared.split.Split.the-variants
 unfoldable pub splitInto : Piece → Piece → Piece → Split
 splitInto south equator north = Into (record { south = south; equator = equator; north = north })
 
--- where an arc is cut: at the crossing, or it cannot be split
+-- where an arc is cut: at the crossing; it can't be split at kind 5, nor at kind 4 (Rust's `unwrap`)
 unfoldable pub cutOf : Crossing → Cut
 cutOf (crossing.At v) = cut.At (pointOf v)
 cutOf crossing.NotBetween = cut.Failed
 cutOf crossing.NoRoot = cut.Failed
 
+-- a crossing is tried only where it is needed to split the arc
 unfoldable pub cutBy : Bool → GreatArc → Rule → Float → Cut
 cutBy needed arc rule z = cond needed (cutOf (crossingBy arc rule z)) cut.Uncut
 
@@ -88,8 +90,12 @@ SplitHasNoRoot p1 p2 =
     ((fromSouth p1 ≡ true) × (intersectParallel (vectOf p1) (vectOf p2) (neg transitionZ) ≡ crossing.NoRoot))
     ⊎ ((toNorth p1 p2 ≡ true) × (intersectParallel (vectOf p1) (vectOf p2) transitionZ ≡ crossing.NoRoot))
 
--- "An arc's crossing with −T or T, needed to split it, is of kind 5": where both heights are numbers, an arc can't be split on this condition
--- only. `proofs/Splits.antt` proves it.
+-- "An arc's crossing with −T or T, needed to split it, is of kind 5": where both heights are numbers, status 10 comes on this condition only,
+-- whichever end is the lower one. `proofs/Splits.antt` proves it.
 abbrev pub OnlyKind5 : Type 0
 OnlyKind5 =
-    (p1 p2 : Coo3D) → isNumber (p1 .z) → isNumber (p2 .z) → splitOrdered p1 p2 ≡ Failed → SplitHasNoRoot p1 p2
+    (p1 p2 : Coo3D)
+    → isNumber (p1 .z)
+    → isNumber (p2 .z)
+    → splitOf p1 p2 ≡ Failed
+    → SplitHasNoRoot p1 p2 ⊎ SplitHasNoRoot p2 p1

@@ -9,7 +9,7 @@ use crossing::great_arc::GreatArc;
 use crossing::parallel;
 use newton::region;
 ghost use mathlib.Core.Path.{_≡_};
-ghost use Rattle.special_points_finder.specs.Endings.{acceptedEqr, acceptedNpc, eqrArc, pcArc, eqrCone, pcCone, answerAt};
+ghost use Rattle.special_points_finder.specs.Endings.{acceptedEqr, fromEndToEnd, acceptedNpc, eqrArc, pcArc, eqrCone, pcCone, answerAt};
 
 // A piece of an arc in a cap: its ends, and their heights once it is moved to the first quarter and, where it is in the south, negated.
 pub struct CapArc {
@@ -27,12 +27,16 @@ pub enum Ending {
     PcCone { south: bool },
 }
 
-// The height is in the equatorial region and between those of the ends, both included.
-fn accepted_eqr(z1: f64, z: f64, z2: f64) -> bool
-    ensures { λ r. ⌜ r ≡ acceptedEqr z1 z z2 ⌝ }
+fn accepted_eqr(z: f64) -> bool
+    ensures { λ r. ⌜ r ≡ acceptedEqr z ⌝ }
 {
-    (float::abs(z) < Coo3D::TRANSITION_Z)
-        & (((z1 <= z2) & (z1 <= z) & (z <= z2)) | ((z2 < z1) & (z2 <= z) & (z <= z1)))
+    float::abs(z) < Coo3D::TRANSITION_Z
+}
+
+fn from_end_to_end(z1: f64, z: f64, z2: f64) -> bool
+    ensures { λ r. ⌜ r ≡ fromEndToEnd z1 z z2 ⌝ }
+{
+    ((z1 <= z2) & (z1 <= z) & (z <= z2)) | ((z2 < z1) & (z2 <= z) & (z <= z1))
 }
 
 fn accepted_npc(z: f64) -> bool
@@ -44,7 +48,7 @@ fn accepted_npc(z: f64) -> bool
 fn eqr_arc(arc: GreatArc, z: f64) -> Answer
     ensures { λ r. ⌜ r ≡ eqrArc arc z ⌝ }
 {
-    if accepted_eqr(arc.p1.z, z, arc.p2.z) {
+    if accepted_eqr(z) & from_end_to_end(arc.p1.z, z, arc.p2.z) {
         answer::crossed(arc.crossing(z))
     } else {
         Answer::Rejected
@@ -65,7 +69,7 @@ fn pc_arc(arc: CapArc, z: f64) -> Answer
 fn eqr_cone(z: f64) -> Answer
     ensures { λ r. ⌜ r ≡ eqrCone z ⌝ }
 {
-    if float::abs(z) < Coo3D::TRANSITION_Z {
+    if accepted_eqr(z) {
         Answer::Height { z }
     } else {
         Answer::Rejected

@@ -25,7 +25,7 @@ struct Center {
     lon: f64,
 }
 
-// The piece moved to the first quarter of the north cap: its slope, and the heights of the ends and of their middle.
+// The piece moved to the first quarter of the north cap: whether it was in the south, its slope, and the heights of the middle and the ends.
 struct QuarterPiece {
     south: bool,
     slope: Slope,
@@ -34,7 +34,7 @@ struct QuarterPiece {
     z2: f64,
 }
 
-// The normal of the plane through both, or its opposite, so that the longitude is at most π.
+// Of the normal of the plane through both, or of its opposite where the longitude is above π.
 fn cone_center(v1: Vect3, v2: Vect3) -> Center
     ensures { λ r. ⌜ r ≡ centerOf v1 v2 ⌝ }
 {

@@ -39,8 +39,8 @@ pub const CLASSES: [Class<Ends>; 24] = [
     ("kept", |random| random.one_of(&KEPT)),
 ];
 
-/// Lost points, panics and other arcs that every run looks at.
-const KEPT: [Ends; 8] = [
+/// Lost points, panics and other arcs that every long run looks at.
+const KEPT: [Ends; 9] = [
     // Document 01: the cross product is zero, status 10.
     [0.0, 0.8, PI, -0.8],
     // An edge of 13 degrees over longitude 0: the piece before it has a special point, and is not looked at.
@@ -50,7 +50,14 @@ const KEPT: [Ends; 8] = [
         0.3038482837732559,
         1.4025091765208624,
     ],
-    // Over longitude 0 too, but that piece has no special point.
+    // In the south, over 17 degrees.
+    [
+        0.37552602047256867,
+        -1.5011430954409108,
+        5.100515243810453,
+        -1.2819248996380908,
+    ],
+    // Over longitude 0 too; turned by π/2, where all of it is looked at, it gets no point either.
     [
         5.300472554243618,
         -1.381271999891891,

@@ -25,12 +25,15 @@ intersect-parallel-requires c κs = search needs
 crossed-requires : tie.Need-crossed-requires
 crossed-requires c κs = search needs
 
+without-walk-requires : tie.Need-without-walk-requires
+without-walk-requires c κs = search needs
+
 slot-numbers-requires : tie.Need-slot-numbers-requires
 slot-numbers-requires c κs = search needs
 
 returns : tie.Need-returns
 unfolding parallelCall
-returns c = simp (← c .slot-numbers .ensures, ← c .before .crossed .ensures, ← c .before .before .intersect-parallel .ensures, ← c .before .before .before .float-of .ensures, ← c .before .before .before .before .vect2 .ensures, ← c .before .before .before .before .before .point2 .ensures, ← c .before .before .before .before .before .before .vect .ensures, ← c .before .before .before .before .before .before .before .point .ensures)
+returns c = simp (← c .slot-numbers .ensures, ← c .before .without-walk .ensures, ← c .before .before .crossed .ensures, ← c .before .before .before .intersect-parallel .ensures, ← c .before .before .before .before .float-of .ensures, ← c .before .before .before .before .before .vect2 .ensures, ← c .before .before .before .before .before .before .point2 .ensures, ← c .before .before .before .before .before .before .before .vect .ensures, ← c .before .before .before .before .before .before .before .before .point .ensures)
 
 pub finder-parallel-spec : {M : Type 1} → statement M
-finder-parallel-spec = tie.close (tie.spec point-requires vect-requires point-requires-2 vect-requires-2 float-of-requires intersect-parallel-requires crossed-requires slot-numbers-requires returns)
+finder-parallel-spec = tie.close (tie.spec point-requires vect-requires point-requires-2 vect-requires-2 float-of-requires intersect-parallel-requires crossed-requires without-walk-requires slot-numbers-requires returns)

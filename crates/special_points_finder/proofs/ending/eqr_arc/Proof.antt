@@ -1,4 +1,4 @@
--- Each return is the branch of `eqrArc` that the tests chose; the contracts of `accepted_eqr`, `crossed` and `crossing` give the values in it.
+-- Each return is the branch of `eqrArc` that the tests chose; the callees' contracts give the values in it.
 use Rattle.special_points_finder.specs.Endings.{eqrArc}
 use borrow.Author.Needs.{needs}
 use Rattle.special_points_finder.proofs.ending.eqr_arc.Statement.{statement}
@@ -6,6 +6,9 @@ use Rattle.special_points_finder.proofs.ending.eqr_arc.Tie as tie
 
 accepted-eqr-requires : tie.Need-accepted-eqr-requires
 accepted-eqr-requires c κs = search needs
+
+from-end-to-end-requires : tie.Need-from-end-to-end-requires
+from-end-to-end-requires c κs = search needs
 
 crossing-requires : tie.Need-crossing-requires
 crossing-requires c κs = search needs
@@ -15,11 +18,11 @@ crossed-requires c κs = search needs
 
 returns : tie.Need-returns
 unfolding eqrArc
-returns c = simp (← c .crossed .ensures, ← c .before .crossing .ensures, c .before .before .if1 .taken, ← c .before .before .before .accepted-eqr .ensures)
+returns c = simp (← c .crossed .ensures, ← c .before .crossing .ensures, c .before .before .if1 .taken, ← c .before .before .before .from-end-to-end .ensures, ← c .before .before .before .before .accepted-eqr .ensures)
 
 returns-2 : tie.Need-returns-2
 unfolding eqrArc
-returns-2 c = simp (c .if1 .left, ← c .before .accepted-eqr .ensures)
+returns-2 c = simp (c .if1 .left, ← c .before .from-end-to-end .ensures, ← c .before .before .accepted-eqr .ensures)
 
 pub eqr-arc-spec : {M : Type 1} → statement M
-eqr-arc-spec = tie.close (tie.spec accepted-eqr-requires crossing-requires crossed-requires returns returns-2)
+eqr-arc-spec = tie.close (tie.spec accepted-eqr-requires from-end-to-end-requires crossing-requires crossed-requires returns returns-2)
