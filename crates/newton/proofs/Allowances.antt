@@ -2,18 +2,18 @@
 -- a walk that has ended by then takes no step more with the larger, and one that has not takes at least one.
 use lib.Ieee.{Float}
 use lib.Dec.{leb}
-use borrow.Author.Tests.{leb-true, leb-false, le-leb}
-use Prim.Native.Nat.{ℕ, zero, suc, _≤_}
-use native.Mathlib.Nat.{le-trans}
+use borrow.Author.Tests.{leb-true, leb-false}
+use Prim.Native.Nat.{ℕ, zero, suc, _≤_, min}
+use native.Mathlib.Nat.{le-trans, min-eq-left, min-comm}
 use native.Mathlib.Omega.{arith}
 use mathlib.Core.Path.{_≡_, refl, sym, ap, _∙_}
-use mathlib.Core.Bool.{Bool, true, false, cond, true≢false}
+use mathlib.Core.Bool.{Bool, true, false, true≢false}
 use mathlib.Core.Logic.{_⊎_, inl, inr, ⊎-elim}
 use Rattle.newton.specs.declared.slope.Slope.{Slope}
 use Rattle.newton.specs.declared.walk.Start.{Start}
 use Rattle.newton.specs.declared.walk.Walk.{Walk}
 use Rattle.newton.specs.Walks.{goingOf, startWalk, stepOf, walkFrom, walkOf}
-use Rattle.newton.specs.Allowances.{freeSteps, EndsFrom, EndsWithin, smaller, EqualOrEnds, TwoAllowances}
+use Rattle.newton.specs.Allowances.{freeSteps, EndsFrom, EndsWithin, EqualOrEnds, TwoAllowances}
 
 module _ (slope : Slope) (limit : Float) where
   -- a walk takes no step back
@@ -72,31 +72,17 @@ unfolding walkOf
 steps-apart s a b l h =
     let w = startWalk (s .z) in apart (s .slope) (s .limit) a b (goingOf (s .limit) w) w refl l h
 
-smaller-first : (a b : ℕ) → a ≤ b → smaller a b ≡ a
-unfolding smaller
-smaller-first a b l = simp (le-leb a b l)
-
-smaller-swapped : (a b : ℕ) → smaller a b ≡ smaller b a
-unfolding smaller
-smaller-swapped a b = by (leb a b) (leb b a) refl refl
-  where
-    by : (x y : Bool) → leb a b ≡ x → leb b a ≡ y → cond x a b ≡ cond y b a
-    by true true e f = omega (arith, leb-true a b e, leb-true b a f)
-    by true false e f = refl
-    by false true e f = refl
-    by false false e f = absurd (omega (arith, leb-false a b e, leb-false b a f))
-
 swapped : (s : Start) (a b : ℕ) → EqualOrEnds a b s → EqualOrEnds b a s
 swapped s a b (inl e) = inl (sym e)
-swapped s a b (inr q) = inr (rw (smaller-swapped b a) q)
+swapped s a b (inr q) = inr (rw (min-comm b a) q)
 
 ordered : (s : Start) (a b : ℕ) → a ≤ b → TwoAllowances s a b
 ordered s a b l =
-    let tell : walkOf s a .steps ≡ walkOf s b .steps → EqualOrEnds a b s = λ h. rw (smaller-first a b) (steps-apart s a b l h) in
+    let tell : walkOf s a .steps ≡ walkOf s b .steps → EqualOrEnds a b s = λ h. rw (min-eq-left l) (steps-apart s a b l h) in
     record {
       law = (
         λ h. tell (ap (λ (w : Walk). w .steps) h),
-        ⊎-elim (λ (e : a ≡ b). ap (walkOf s) e) (λ (q : EndsWithin s (smaller a b)). ends-same s a b l (rw (smaller-first a b) at q)),
+        ⊎-elim (λ (e : a ≡ b). ap (walkOf s) e) (λ (q : EndsWithin s (min a b)). ends-same s a b l (rw (min-eq-left l) at q)),
       );
       steps-tell = tell;
     }

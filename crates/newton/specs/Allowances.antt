@@ -1,10 +1,9 @@
 -- Document 01, "Walks": when a walk ends by itself within an allowance, and what two allowances have to do with it. Definitions and claims;
 -- `proofs/Allowances.antt` proves them.
 use lib.Ieee.{Float}
-use lib.Dec.{leb}
-use Prim.Native.Nat.{ℕ, zero, suc, _≤_}
+use Prim.Native.Nat.{ℕ, zero, suc, _≤_, min}
 use mathlib.Core.Path.{_≡_}
-use mathlib.Core.Bool.{false, cond}
+use mathlib.Core.Bool.{false}
 use mathlib.Core.Logic.{_⊎_, _↔_}
 use Rattle.newton.specs.Walks.{startWalk, goingOf, stepOf, walkOf}
 use Rattle.newton.specs.declared.slope.Slope.{Slope}
@@ -25,12 +24,9 @@ pub record EndsFrom (slope : Slope) (limit : Float) (n : ℕ) (w : Walk) : Type 
 abbrev pub EndsWithin : Start → ℕ → Type 0
 EndsWithin s n = EndsFrom (s .slope) (s .limit) n (startWalk (s .z))
 
-unfoldable pub smaller : ℕ → ℕ → ℕ
-smaller a b = cond (leb a b) a b
-
 -- the allowances a and b are equal, or the walk ends by itself within the smaller
 abbrev pub EqualOrEnds : ℕ → ℕ → Start → Type 0
-EqualOrEnds a b s = (a ≡ b) ⊎ EndsWithin s (smaller a b)
+EqualOrEnds a b s = (a ≡ b) ⊎ EndsWithin s (min a b)
 
 -- For a walk and two allowances: the results are equal if and only if the allowances are equal or the walk ends by itself within the
 -- smaller, and equal step counts already give the latter.

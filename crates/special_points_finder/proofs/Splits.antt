@@ -9,7 +9,7 @@ use native.Mathlib.Nat.{eq-or-lt-of-le, eq-zero-or-pos}
 use native.Mathlib.Omega.{arith}
 use mathlib.Core.Path.{_≡_, refl, sym, _∙_}
 use mathlib.Core.Logic.{_⊎_, inl, inr, ⊎-elim}
-use mathlib.Core.Bool.{Bool, true, false, cond, not, _&&_, _||_, true≢false}
+use mathlib.Core.Bool.{Bool, true, false, cond, not, _&&_, _||_, true≢false, and-true}
 use Rattle.angles.specs.Constants.{transitionZ}
 use Rattle.coo3d.specs.declared.point.Coo3D.{Coo3D}
 use Rattle.coo3d.specs.declared.vect3.Vect3.{Vect3}
@@ -32,10 +32,6 @@ neither : (a b : Bool) → (a || b) ≡ false → (a ≡ false) × (b ≡ false)
 neither true b h = absurd (true≢false h)
 neither false b h = (refl, h)
 
-left-alone : (a : Bool) → (a && true) ≡ false → a ≡ false
-left-alone true h = absurd (true≢false h)
-left-alone false h = refl
-
 strictly : (a b : ℕ) → a ≤ b → (a ≡ b → ⊥) → a < b
 strictly a b l n = ⊎-elim (λ (e : a ≡ b). absurd (n e)) (λ (h : a < b). h) (eq-or-lt-of-le l)
 
@@ -48,7 +44,7 @@ both-zero a b h =
 above-by : (s t : Bool) (a b : ℕ) → (below s a t b || level s a t b) ≡ false → below t b s a ≡ true
 above-by false false a b h =
     let n = neither (ltb a b) (eqb a b && true) h in
-    lt-ltb b a (strictly b a (ltb-false a b (n .0)) (λ e. eqb-false a b (left-alone (eqb a b) (n .1)) (sym e)))
+    lt-ltb b a (strictly b a (ltb-false a b (n .0)) (λ e. eqb-false a b (sym (and-true (eqb a b)) ∙ n .1) (sym e)))
 above-by false true a b h =
     ⊎-elim
     (λ (e : a + b ≡ 0). absurd (true≢false (sym (both-zero a b e) ∙ h)))
@@ -60,7 +56,7 @@ above-by true false a b h =
     absurd (true≢false (sym (both-zero a b z) ∙ n .1))
 above-by true true a b h =
     let n = neither (ltb b a) (eqb a b && true) h in
-    lt-ltb a b (strictly a b (ltb-false b a (n .0)) (eqb-false a b (left-alone (eqb a b) (n .1))))
+    lt-ltb a b (strictly a b (ltb-false b a (n .0)) (eqb-false a b (sym (and-true (eqb a b)) ∙ n .1)))
 
 -- of two numbers x and y, where x ≤ y is false
 above : (x y : Float) → isNumber x → isNumber y → le x y ≡ false → lt y x ≡ true
