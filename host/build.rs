@@ -12,7 +12,9 @@ fn main() {
     let archives = repository.join("target/staticlib");
     println!("cargo::rustc-link-search=native={}", archives.display());
     link(&archives, "root");
-    link_if_made(&archives, "finder_calls");
+    link(&archives, "jobs");
+    // `%` on f64 is the C library's fmod.
+    println!("cargo::rustc-link-lib=m");
     reference::prepare(&repository);
 }
 
@@ -26,17 +28,4 @@ fn link(archives: &Path, library: &str) {
         );
     }
     println!("cargo::rustc-link-lib=static={library}");
-}
-
-/// Links an archive that only some programs need, and sets the condition of its name where it is there.
-fn link_if_made(archives: &Path, library: &str) {
-    println!("cargo::rustc-check-cfg=cfg({library})");
-    if archives.join(format!("lib{library}.a")).is_file() {
-        println!("cargo::rustc-cfg={library}");
-        link(archives, library);
-        // `%` on f64 is the C library's fmod.
-        println!("cargo::rustc-link-lib=m");
-    } else {
-        println!("cargo::rerun-if-changed={}", archives.display());
-    }
 }

@@ -1,6 +1,6 @@
-//! Makes the reference ready to be compiled: reads its source, puts document 01's angle functions in the place of the library's, adds calls
-//! that tell its work on each slot, and writes the result to OUT_DIR. An edit that doesn't find its place as often as it says fails the
-//! build.
+//! Makes the reference ready to be compiled: reads its source, puts document 01's angle functions in the place of the library's, and writes
+//! the result to OUT_DIR, once so and once with calls that tell its work on each slot. An edit that doesn't find its place as often as it
+//! says fails the build.
 
 use std::env;
 use std::fs;
@@ -41,7 +41,7 @@ const COO3D_EDITS: [Edit; 6] = [
     edit(1, "lat.sin_cos()", "crate::angles::sin_cos(lat)"),
 ];
 
-const FINDER_EDITS: [Edit; 12] = [
+const FINDER_EDITS: [Edit; 2] = [
     edit(
         1,
         "p1_x_p2_norm.atan2(p1_dot_p2)",
@@ -52,7 +52,29 @@ const FINDER_EDITS: [Edit; 12] = [
         "(n / d2.sqrt()).acos()",
         "crate::angles::acos(n / d2.sqrt())",
     ),
-    // From here on: calls of src/reference.rs. They change nothing of what is worked out.
+];
+
+// From here on: calls of src/reference.rs. They change nothing of what is worked out.
+
+const COO3D_CALLS: [Edit; 3] = [
+    edit(
+        1,
+        "use super::super::Customf64;",
+        "use super::super::{Counted, Customf64};",
+    ),
+    edit(10, ".sqrt()", ".sqrt().counted()"),
+    edit(5, "crate::angles::atan2(", "super::super::counted::atan2("),
+];
+
+const FINDER_CALLS: [Edit; 14] = [
+    edit(
+        1,
+        "use super::{Customf64,",
+        "use super::{Counted, Customf64,",
+    ),
+    edit(8, ".sqrt()", ".sqrt().counted()"),
+    edit(1, "crate::angles::atan2(", "super::counted::atan2("),
+    edit(2, "crate::angles::acos(", "super::counted::acos("),
     edit(
         4,
         "let mut n_iter = 0_u8;",
@@ -108,7 +130,7 @@ const FORBIDDEN: [&str; 8] = [
     "mul_add",
 ];
 
-/// Writes the reference to OUT_DIR and sets the condition `reference`, if the source can be had.
+/// Writes the reference to OUT_DIR, twice, and sets the condition `reference`, if the source can be had.
 pub fn prepare(repository: &Path) {
     println!("cargo::rustc-check-cfg=cfg(reference)");
     println!("cargo::rerun-if-env-changed={VARIABLE}");
@@ -125,20 +147,19 @@ pub fn prepare(repository: &Path) {
         }
         return;
     }
-    match edited(&folder) {
-        Ok(text) => {
-            let out = PathBuf::from(env::var_os("OUT_DIR").expect("cargo sets OUT_DIR"));
-            fs::write(out.join("reference.rs"), text).expect("OUT_DIR can be written to");
-            println!("cargo::rustc-cfg=reference");
-        }
+    let written = write(&folder, "plain_reference.rs", [&[], &[]])
+        .and_then(|()| write(&folder, "reference.rs", [&COO3D_CALLS, &FINDER_CALLS]));
+    match written {
+        Ok(()) => println!("cargo::rustc-cfg=reference"),
         Err(message) => println!("cargo::error=the reference: {message}"),
     }
 }
 
-fn edited(folder: &Path) -> Result<String, String> {
+/// Writes the reference with document 01's angle functions, and with these edits more of its two files.
+fn write(folder: &Path, name: &str, [in_coo3d, in_finder]: [&[Edit]; 2]) -> Result<(), String> {
     let lib = read(folder, LIB)?;
-    let coo3d = with_edits(COO3D, read(folder, COO3D)?, &COO3D_EDITS)?;
-    let finder = with_edits(FINDER, read(folder, FINDER)?, &FINDER_EDITS)?;
+    let coo3d = with_edits(folder, COO3D, &COO3D_EDITS, in_coo3d)?;
+    let finder = with_edits(folder, FINDER, &FINDER_EDITS, in_finder)?;
     let mut text = String::new();
     for start in LIB_ITEMS {
         text += &item(&lib, start)?;
@@ -146,7 +167,8 @@ fn edited(folder: &Path) -> Result<String, String> {
     let allowed = "#[allow(dead_code, clippy::all)]\npub mod";
     text += &format!("{allowed} sph_geom {{\npub mod coo3d {{\n{coo3d}\n}}\n}}\n");
     text += &format!("{allowed} special_points_finder {{\n{finder}\n}}\n");
-    Ok(text)
+    let out = PathBuf::from(env::var_os("OUT_DIR").expect("cargo sets OUT_DIR"));
+    fs::write(out.join(name), text).map_err(|error| format!("{name}: {error}"))
 }
 
 fn read(folder: &Path, name: &str) -> Result<String, String> {
@@ -155,8 +177,9 @@ fn read(folder: &Path, name: &str) -> Result<String, String> {
     fs::read_to_string(&path).map_err(|error| format!("{}: {error}", path.display()))
 }
 
-fn with_edits(name: &str, mut text: String, edits: &[Edit]) -> Result<String, String> {
-    for Edit { places, from, to } in edits {
+fn with_edits(folder: &Path, name: &str, edits: &[Edit], calls: &[Edit]) -> Result<String, String> {
+    let mut text = read(folder, name)?;
+    for Edit { places, from, to } in edits.iter().chain(calls) {
         let found = text.matches(from).count();
         if found != *places {
             return Err(format!("{name} has `{from}` {found} times, not {places}"));

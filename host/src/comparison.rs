@@ -1,31 +1,21 @@
-//! The finder against the reference, class by class.
+//! The finder against document 01's rules and the reference, job file by job file.
 
-mod arc;
-mod others;
-mod outcomes;
+mod guarded;
 
-use crate::inputs::{self, cones, ends, parallels, Settings};
-use crate::random::Random;
+use crate::commands::{ALLOWANCE, PRECISION, REPLY_BUFFER};
+use crate::finder;
+use crate::job_files::{self, Maker};
+use crate::outcomes::{print_row, Outcomes};
 use crate::reference::{self, Panic};
-use outcomes::{Outcome, Outcomes};
-use std::fmt::Display;
+use crate::rules::{self, Answer, Content, Reply};
+use guarded::{Guarded, Side};
 
-const SEED: u64 = 0x4669_6E64;
+const SEED: u64 = 0x4A6F_6273;
 const MOST_SHOWN: u64 = 10;
-const AT_A_STEP: &str = "precision at a step";
-/// From so many inputs on, everything that the classes are made for must come about.
-const LONG_RUN: u64 = 100_000;
+/// From so many random jobs on, everything that the classes are made for must come about.
+const LONG_RUN: u64 = 200_000;
 
-/// How one input came out.
-struct Case {
-    found: bool,
-    panic: Option<Panic>,
-    outcome: Outcome,
-    /// Both answers, where they differ.
-    difference: Option<String>,
-}
-
-#[derive(Default)]
+#[derive(Clone, Default)]
 struct Tally {
     compared: u64,
     differ: u64,
@@ -35,12 +25,12 @@ struct Tally {
 }
 
 impl Tally {
-    fn count(&mut self, case: &Case) {
+    fn count(&mut self, reply: &Reply, agrees: bool) {
         self.compared += 1;
-        self.differ += u64::from(case.difference.is_some());
-        self.found += u64::from(case.found);
-        self.unreachable += u64::from(case.panic == Some(Panic::Unreachable));
-        self.unwraps += u64::from(case.panic == Some(Panic::UnwrapOfNone));
+        self.differ += u64::from(!agrees);
+        self.found += u64::from(has_point(&reply.content));
+        self.unreachable += u64::from(reply.panic == Some(Panic::Unreachable));
+        self.unwraps += u64::from(reply.panic == Some(Panic::UnwrapOfNone));
     }
 
     fn print(&self, name: &str) {
@@ -55,148 +45,228 @@ impl Tally {
     }
 }
 
-fn print_row<T: Display, const N: usize>(name: &str, columns: [T; N]) {
-    let columns = columns.map(|column| format!("{column:>12}"));
-    println!("{name:<42}{}", columns.concat());
+fn has_point(content: &Content) -> bool {
+    match content {
+        Content::Zeros => false,
+        Content::Slots(slots) => slots.iter().flatten().any(|slot| slot.kind == 3),
+        Content::Height(slot) | Content::Crossing(slot) => slot.kind == 3,
+    }
 }
 
 struct Comparison {
-    random: Random,
-    /// How many inputs of each class.
-    each: u64,
+    maker: Maker,
+    job: Guarded,
+    reply: Guarded,
+    /// By class, and at the end for files that are no valid file of the maker's.
+    tallies: Vec<Tally>,
     total: Tally,
     outcomes: Outcomes,
+    /// Slots that the reference did not come to.
+    unknown_slots: u64,
+    files: u64,
+    files_differ: u64,
+    shown: u64,
 }
 
 impl Comparison {
-    fn class<T: Display>(
-        &mut self,
-        name: String,
-        draw: impl Fn(&mut Random) -> T,
-        compare: fn(&T) -> Case,
-    ) {
-        let mut tally = Tally::default();
-        for _ in 0..self.each {
-            let input = draw(&mut self.random);
-            let case = compare(&input);
-            tally.count(&case);
-            self.total.count(&case);
-            self.outcomes.count(&case.outcome);
-            if let Some(difference) = case.difference {
-                if self.total.differ <= MOST_SHOWN {
-                    println!("{name}: {input}\n{difference}");
-                }
+    fn new() -> Self {
+        let maker = Maker::new(SEED);
+        let tallies = vec![Tally::default(); maker.names().len() + 1];
+        Comparison {
+            maker,
+            job: Guarded::new(job_files::LONGEST),
+            reply: Guarded::new(REPLY_BUFFER),
+            tallies,
+            total: Tally::default(),
+            outcomes: Outcomes::default(),
+            unknown_slots: 0,
+            files: 0,
+            files_differ: 0,
+            shown: 0,
+        }
+    }
+
+    /// Runs a job file through the finder, and says whether number, place, written and all bytes that it may not change are as they must be.
+    fn run(&mut self, job: &[u8], buffer: usize, expected: &Answer) -> Result<(), String> {
+        let random = &mut self.maker.random;
+        let side = random.one_of(&[Side::First, Side::Second]);
+        self.job.fill(job.len(), side, random);
+        self.job.buffer().copy_from_slice(job);
+        self.reply.fill(buffer, side, random);
+        let answer = finder::run(self.job.buffer(), self.reply.buffer());
+        let written = expected.written();
+        let agreed = finder::Answer {
+            number: expected.number,
+            place: expected.place as u64,
+            written: written as u64,
+        };
+        if answer != agreed {
+            Err(format!("{answer:?}, not {agreed:?}"))
+        } else if self.job.buffer() != job || !self.job.is_kept_from(job.len()) {
+            Err("the job or bytes beside it have changed".to_string())
+        } else if !self.reply.is_kept_from(written) {
+            Err("bytes past the replies or beside the buffer have changed".to_string())
+        } else {
+            Ok(())
+        }
+    }
+
+    /// Compares a job file. Without classes, its jobs are counted at the end.
+    fn compare(&mut self, job: &[u8], classes: Option<&[usize]>, buffer: usize) {
+        let expected = rules::run(job, buffer);
+        let result = self.run(job, buffer, &expected);
+        self.files += 1;
+        self.outcomes.count_file(expected.number);
+        let mut differs = result.is_err();
+        if let Err(difference) = result {
+            self.show(job, buffer, &difference);
+        }
+        let mut classes = classes.into_iter().flatten();
+        let mut at = 0;
+        for reply in &expected.replies {
+            let bytes = self.reply.buffer()[at..at + reply.width()].to_vec();
+            let agrees = reply.agrees(&bytes);
+            if !matches!(reply.command.code, PRECISION | ALLOWANCE) {
+                let class = classes.next().copied();
+                let class = class.unwrap_or(self.tallies.len() - 1);
+                self.tallies[class].count(reply, agrees);
+                self.total.count(reply, agrees);
+            }
+            self.unknown_slots += reply.unknown_slots() as u64;
+            if agrees {
+                self.outcomes.count(&bytes);
+            } else {
+                differs = true;
+                let difference = format!("{}: {bytes:02x?}, not {reply:x?}", reply.command);
+                self.show(job, buffer, &difference);
+            }
+            at += reply.width();
+        }
+        self.files_differ += u64::from(differs);
+    }
+
+    fn show(&mut self, job: &[u8], buffer: usize, difference: &str) {
+        self.shown += 1;
+        if self.shown <= MOST_SHOWN {
+            let hex: String = job.iter().map(|byte| format!("{byte:02x}")).collect();
+            println!("job file {hex}, buffer {buffer}: {difference}");
+        }
+    }
+
+    /// Files of one byte; a file with every code, cut at each length, with each byte changed to each value, and with each buffer up to its
+    /// replies' length; files of each length about the limit, and far past it.
+    fn systematic(&mut self) {
+        for byte in 0..=u8::MAX {
+            self.compare(&[byte], None, 0);
+        }
+        let file = job_files::every_code();
+        for length in 0..file.len() {
+            self.compare(&file[..length], None, REPLY_BUFFER);
+        }
+        for place in 0..file.len() {
+            for value in 0..=u8::MAX {
+                let mut changed = file.clone();
+                changed[place] = value;
+                self.compare(&changed, None, REPLY_BUFFER);
             }
         }
-        tally.print(&name);
+        for buffer in 0..=needed(&file) + 1 {
+            self.compare(&file, None, buffer);
+        }
+        for length in job_files::lengths() {
+            for file in job_files::of_length(length) {
+                self.compare(&file, None, REPLY_BUFFER);
+            }
+        }
     }
 
-    fn arcs(&mut self) {
-        for (name, draw) in ends::CLASSES {
-            let draw = |random: &mut Random| {
-                let ends = draw(random);
-                inputs::arc(random, ends)
-            };
-            self.class(format!("arc, {name}"), draw, arc::compare);
+    /// A valid file with a buffer that is long enough and one that isn't; then damaged ones.
+    fn mixed(&mut self) {
+        let most = self.maker.random.one_of(&[300, 3_000, 16_384]);
+        let mut file = self.maker.mixed(most);
+        if self.maker.random.flip() {
+            file.bytes = job_files::padded(&file.bytes, most);
         }
-        let draw = |random: &mut Random| {
-            let ends = ends::special(random);
-            let input = inputs::arc(random, ends);
-            at_a_step(random, input, |arc| &mut arc.settings, arc::compare)
+        let needed = needed(&file.bytes);
+        let random = &mut self.maker.random;
+        let longer = match random.below(4) {
+            0 => needed + random.below(100) as usize,
+            1 => REPLY_BUFFER,
+            _ => needed,
         };
-        self.class(format!("arc, {AT_A_STEP}"), draw, arc::compare);
+        let shorter = match random.below(4) {
+            0 => 0,
+            1 => random.below(needed as u64) as usize,
+            _ => needed - 1,
+        };
+        self.compare(&file.bytes, Some(&file.classes), longer);
+        self.compare(&file.bytes, Some(&file.classes), shorter);
+        self.damaged();
     }
 
-    fn cones(&mut self) {
-        for (name, draw) in cones::EQUATORIAL {
-            let name = format!("equatorial cone, {name}");
-            self.class(name, draw, others::equatorial_cone);
+    fn damaged(&mut self) {
+        let file = self.maker.mixed(300);
+        for _ in 0..4 {
+            let damaged = self.maker.damaged(&file);
+            self.compare(&damaged, None, REPLY_BUFFER);
         }
-        let draw = |random: &mut Random| {
-            let input = cones::advised_in_eqr(random);
-            at_a_step(
-                random,
-                input,
-                |cone| &mut cone.settings,
-                others::equatorial_cone,
-            )
-        };
-        let name = format!("equatorial cone, {AT_A_STEP}");
-        self.class(name, draw, others::equatorial_cone);
-        for (name, draw) in cones::POLAR {
-            self.class(format!("polar cone, {name}"), draw, others::polar_cone);
-        }
-        let draw = |random: &mut Random| {
-            let input = cones::advised_in_pc(random);
-            at_a_step(
-                random,
-                input,
-                |polar| &mut polar.cone.settings,
-                others::polar_cone,
-            )
-        };
-        self.class(format!("polar cone, {AT_A_STEP}"), draw, others::polar_cone);
     }
 
-    fn verdict(&self) -> bool {
+    fn print(&self) {
+        print_row(
+            "",
+            ["compared", "differ", "found", "unreachable", "unwraps"],
+        );
+        let damaged = "any job, in damaged files".to_string();
+        let names = self.maker.names().into_iter().chain([damaged]);
+        for (name, tally) in names.zip(&self.tallies) {
+            tally.print(&name);
+        }
+        self.total.print("all");
+        self.outcomes.print();
+        print_row(
+            "slots that the reference did not come to",
+            [self.unknown_slots],
+        );
+    }
+
+    /// Whether all is well after a run on so many random jobs.
+    fn verdict(&self, count: u64) -> bool {
         let Tally {
             compared, differ, ..
         } = self.total;
-        println!("finder: {compared} inputs compared, {differ} differ");
-        let missing = if compared < LONG_RUN {
+        println!(
+            "job files: {} compared, {} differ",
+            self.files, self.files_differ
+        );
+        println!("jobs: {compared} compared, {differ} differ");
+        let missing = if count < LONG_RUN {
             Vec::new()
         } else {
             self.outcomes.missing()
         };
         for outcome in &missing {
-            println!("finder: FAILED, no input gave {outcome}");
+            println!("jobs: FAILED, not seen: {outcome}");
         }
-        differ == 0 && missing.is_empty()
+        self.files_differ == 0 && missing.is_empty()
     }
 }
 
-/// Compares so many inputs, or a few more, the same number of each class, and says whether all is well.
+/// The length of the replies to a valid file.
+fn needed(file: &[u8]) -> usize {
+    let commands = rules::commands(file).expect("the file is valid");
+    rules::needed(&commands)
+}
+
+/// Compares systematic files and then so many random jobs, or a few more, and says whether all is well.
 pub fn run(count: u64) -> bool {
     reference::silence_watched_panics();
-    let mut comparison = Comparison {
-        random: Random::new(SEED),
-        each: count.div_ceil(classes()),
-        total: Tally::default(),
-        outcomes: Outcomes::default(),
-    };
-    print_row(
-        "",
-        ["compared", "differ", "found", "unreachable", "unwraps"],
-    );
-    comparison.arcs();
-    comparison.cones();
-    for (name, draw) in parallels::CLASSES {
-        comparison.class(format!("parallel, {name}"), draw, others::parallel);
+    let mut comparison = Comparison::new();
+    comparison.systematic();
+    let systematic = comparison.total.compared;
+    while comparison.total.compared - systematic < count {
+        comparison.mixed();
     }
-    comparison.total.print("all");
-    comparison.outcomes.print();
-    comparison.verdict()
-}
-
-/// The input with a precision that is the size of one of its steps: a walk ends at a size equal to its limit.
-fn at_a_step<T>(
-    random: &mut Random,
-    mut input: T,
-    settings: fn(&mut T) -> &mut Settings,
-    compare: fn(&T) -> Case,
-) -> T {
-    settings(&mut input).precision = 0.0;
-    compare(&input);
-    let sizes = reference::step_sizes().into_iter();
-    let sizes: Vec<f64> = sizes.filter(|size| size.is_finite()).collect();
-    if !sizes.is_empty() {
-        settings(&mut input).precision = random.one_of(&sizes).abs();
-    }
-    input
-}
-
-/// The number of classes, with those whose precision is a step's size: one for each operation that walks.
-fn classes() -> u64 {
-    let cones = cones::EQUATORIAL.len() + cones::POLAR.len();
-    (ends::CLASSES.len() + cones + parallels::CLASSES.len() + 3) as u64
+    comparison.print();
+    comparison.verdict(count)
 }

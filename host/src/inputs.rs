@@ -1,134 +1,151 @@
-//! What the comparison of the finder runs on, in classes. All lie within the ranges of document 01's refusal 9.
+//! What the comparison of the finder runs on, in classes.
 
 pub mod cones;
 pub mod ends;
+mod operands;
 pub mod parallels;
 
+pub use crate::reference::TRANSITION_Z;
+pub use operands::NOT_FINITE;
+
+use crate::angles;
+use crate::commands::{Command, ARC};
 use crate::random::Random;
-use std::fmt;
+use crate::rules::{self, Settings};
 
 /// Longitude and latitude of one end of an arc, and of the other.
 pub type Ends = [f64; 4];
 
-#[derive(Clone, Copy)]
-pub struct Settings {
+/// A kind of inputs: its name, and how to draw one.
+pub type Class<T> = (&'static str, fn(&mut Random) -> T);
+
+/// A job and the settings to run it with.
+pub struct Input {
+    pub job: Command,
     pub precision: f64,
     pub allowance: u8,
 }
 
-pub struct Arc {
-    pub ends: Ends,
-    pub settings: Settings,
+/// A class of inputs with its full name.
+pub struct Inputs {
+    pub name: String,
+    pub draw: Box<dyn Fn(&mut Random) -> Input>,
 }
 
-pub struct Cone {
-    pub z: f64,
-    pub z0: f64,
-    pub radius: f64,
-    pub north: bool,
-    pub settings: Settings,
+/// Every class: first those whose operands lie within document 01's ranges, then those in which they may not.
+pub fn classes() -> Vec<Inputs> {
+    let mut classes = Vec::new();
+    for (name, draw) in ends::CLASSES {
+        classes.push(class("arc", name, move |random| arc(random, draw)));
+    }
+    classes.push(at_a_step("arc", |random| arc(random, ends::special)));
+    for (name, draw) in cones::EQUATORIAL {
+        classes.push(class("equatorial cone", name, draw));
+    }
+    classes.push(at_a_step("equatorial cone", cones::advised_in_eqr));
+    for (name, draw) in cones::POLAR {
+        classes.push(class("polar cone", name, draw));
+    }
+    classes.push(at_a_step("polar cone", cones::advised_in_pc));
+    for (name, draw) in parallels::CLASSES {
+        classes.push(class("parallel", name, draw));
+    }
+    for (name, change) in operands::CHANGES {
+        let changed = move |random: &mut Random| {
+            let mut job = any(random);
+            change(random, &mut job);
+            job
+        };
+        classes.push(class("any job", name, changed));
+    }
+    classes
 }
 
-pub struct PolarCone {
-    pub lon: f64,
-    pub east: bool,
-    pub cone: Cone,
+fn class(of: &str, name: &str, draw: impl Fn(&mut Random) -> Command + 'static) -> Inputs {
+    Inputs {
+        name: format!("{of}, {name}"),
+        draw: Box::new(move |random| Input {
+            job: draw(random),
+            precision: precision(random),
+            allowance: allowance(random),
+        }),
+    }
 }
 
-pub struct Parallel {
-    pub ends: Ends,
-    pub z: f64,
+/// With a precision that is the size of one of the job's steps: a walk ends at a size equal to its limit.
+fn at_a_step(of: &str, draw: fn(&mut Random) -> Command) -> Inputs {
+    Inputs {
+        name: format!("{of}, precision at a step"),
+        draw: Box::new(move |random| {
+            let (job, allowance) = (draw(random), allowance(random));
+            let sizes = rules::step_sizes(&job, &Settings::new(0.0, allowance));
+            let precision = if sizes.is_empty() {
+                0.0
+            } else {
+                random.one_of(&sizes)
+            };
+            Input {
+                job,
+                precision,
+                allowance,
+            }
+        }),
+    }
 }
 
-/// A class of inputs: its name, and how to draw one.
-pub type Class<T> = (&'static str, fn(&mut Random) -> T);
-
-pub const TRANSITION_Z: f64 = 2.0 / 3.0;
+/// A job of any code, within the ranges.
+pub fn any(random: &mut Random) -> Command {
+    match random.below(4) {
+        0 => {
+            let (_, draw) = random.one_of(&ends::CLASSES);
+            arc(random, draw)
+        }
+        1 => random.one_of(&cones::EQUATORIAL).1(random),
+        2 => random.one_of(&cones::POLAR).1(random),
+        _ => random.one_of(&parallels::CLASSES).1(random),
+    }
+}
 
 /// An arc between two ends, in either order.
-pub fn arc(random: &mut Random, ends: Ends) -> Arc {
-    let [lon1, lat1, lon2, lat2] = ends;
-    let turned = [lon2, lat2, lon1, lat1];
-    Arc {
-        ends: if random.flip() { turned } else { ends },
-        settings: settings(random),
-    }
+fn arc(random: &mut Random, draw: fn(&mut Random) -> Ends) -> Command {
+    let [lon1, lat1, lon2, lat2] = draw(random);
+    let ends = if random.flip() {
+        [lon2, lat2, lon1, lat1]
+    } else {
+        [lon1, lat1, lon2, lat2]
+    };
+    Command::new(ARC, ends, [])
 }
 
-pub fn settings(random: &mut Random) -> Settings {
-    Settings {
-        precision: precision(random),
-        allowance: allowance(random),
-    }
-}
-
-fn precision(random: &mut Random) -> f64 {
+pub fn precision(random: &mut Random) -> f64 {
     match random.below(10) {
         0..=4 => random.power_of_ten(-16.0, -3.0),
-        5 | 6 => 10f64.powi(-3 - random.below(14) as i32),
+        5 | 6 => random.one_of(&[1e-3, 1e-6, 1e-8, 1e-9, 1e-10, 1e-12, 1e-15, 1e-16]),
         7 => random.one_of(&[0.0, -0.0, 5e-324, 1e-300]),
         8 => -random.power_of_ten(-17.0, 300.0),
         _ => random.one_of(&[0.01, 0.02, 0.04, 1.0, 1e300, f64::MAX]),
     }
 }
 
-fn allowance(random: &mut Random) -> u8 {
+pub fn allowance(random: &mut Random) -> u8 {
     let bound = random.one_of(&[4, 31, 256]);
     random.below(bound) as u8
 }
 
-/// A float as its pattern and in decimal.
-struct Shown(f64);
+// Document 01's angle functions give the same bits on every machine.
 
-impl fmt::Display for Shown {
-    fn fmt(&self, f: &mut fmt::Formatter) -> fmt::Result {
-        write!(f, "{:#018x} ({:?})", self.0.to_bits(), self.0)
-    }
+fn sin(angle: f64) -> f64 {
+    angles::sin_cos(angle).0
 }
 
-fn show_ends(ends: &Ends) -> String {
-    let [lon1, lat1, lon2, lat2] = ends.map(Shown);
-    format!("lon1 {lon1}, lat1 {lat1}, lon2 {lon2}, lat2 {lat2}")
+fn cos(angle: f64) -> f64 {
+    angles::sin_cos(angle).1
 }
 
-impl fmt::Display for Settings {
-    fn fmt(&self, f: &mut fmt::Formatter) -> fmt::Result {
-        let precision = Shown(self.precision);
-        write!(f, "precision {precision}, allowance {}", self.allowance)
-    }
+fn asin(sine: f64) -> f64 {
+    angles::atan2(sine, ((1.0 - sine) * (1.0 + sine)).sqrt())
 }
 
-impl fmt::Display for Arc {
-    fn fmt(&self, f: &mut fmt::Formatter) -> fmt::Result {
-        write!(f, "{}, {}", show_ends(&self.ends), self.settings)
-    }
-}
-
-impl fmt::Display for Cone {
-    fn fmt(&self, f: &mut fmt::Formatter) -> fmt::Result {
-        let [z, z0, radius] = [self.z, self.z0, self.radius].map(Shown);
-        let (north, settings) = (self.north, self.settings);
-        write!(
-            f,
-            "z {z}, z0 {z0}, radius {radius}, north {north}, {settings}"
-        )
-    }
-}
-
-impl fmt::Display for PolarCone {
-    fn fmt(&self, f: &mut fmt::Formatter) -> fmt::Result {
-        write!(
-            f,
-            "lon {}, east {}, {}",
-            Shown(self.lon),
-            self.east,
-            self.cone
-        )
-    }
-}
-
-impl fmt::Display for Parallel {
-    fn fmt(&self, f: &mut fmt::Formatter) -> fmt::Result {
-        write!(f, "{}, z {}", show_ends(&self.ends), Shown(self.z))
-    }
+fn atan(tangent: f64) -> f64 {
+    angles::atan2(tangent, 1.0)
 }

@@ -1,14 +1,30 @@
 //! The functions proved in Rattle, as Rust calls them, and what they are compared with.
 
 pub mod angles;
-#[cfg(all(finder_calls, reference))]
+pub mod commands;
+#[cfg(reference)]
 pub mod comparison;
-#[cfg(finder_calls)]
+#[cfg(reference)]
+pub mod example;
 pub mod finder;
+#[cfg(reference)]
 pub mod inputs;
+#[cfg(reference)]
+pub mod job_files;
+#[cfg(reference)]
+pub mod outcomes;
+#[cfg(reference)]
+pub mod plain_reference;
+pub mod programs;
 pub mod random;
 #[cfg(reference)]
 pub mod reference;
+#[cfg(reference)]
+pub mod rules;
+#[cfg(reference)]
+pub mod stored_answers;
+#[cfg(reference)]
+pub mod timing;
 
 /// The pattern of every NaN that a function proved in Rattle answers.
 pub const CANONICAL_NAN: u64 = 0x7FF8_0000_0000_0000;

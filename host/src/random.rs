@@ -1,5 +1,6 @@
-//! Splitmix64: the same seed gives the same u64s in every run. What the inputs make of them with the library's powf, asin and so on may
-//! differ between machines.
+//! Splitmix64, and what is drawn with it: the same seed gives the same numbers in every run and on every machine.
+
+use std::f64::consts::{LN_2, LOG2_10};
 
 pub struct Random {
     state: u64,
@@ -38,7 +39,7 @@ impl Random {
 
     /// Ten to a power between the two given.
     pub fn power_of_ten(&mut self, low: f64, high: f64) -> f64 {
-        10f64.powf(self.between(low, high))
+        ten_to(self.between(low, high))
     }
 
     /// `x` or its opposite.
@@ -60,8 +61,19 @@ impl Random {
     }
 }
 
+/// Ten to this power, by Taylor's series: the library's powf may differ between machines.
+pub fn ten_to(power: f64) -> f64 {
+    let power = power * LOG2_10;
+    let whole = power.floor();
+    let x = (power - whole) * LN_2;
+    let series = (1..=18)
+        .rev()
+        .fold(1.0, |sum, n| 1.0 + sum * x / f64::from(n));
+    series * f64::from_bits(((whole as i64 + 1023) as u64) << 52)
+}
+
 /// The float that lies so many places above or below x.
-fn moved(x: f64, places: i64) -> f64 {
+pub fn moved(x: f64, places: i64) -> f64 {
     // From patterns to numbers in the order of the floats, and back: both zeros are 0.
     let turn = |n: i64| if n < 0 { i64::MIN.wrapping_sub(n) } else { n };
     f64::from_bits(turn(turn(x.to_bits() as i64) + places) as u64)

@@ -54,15 +54,14 @@ const NO_WORK: Work = Work {
 };
 
 thread_local! {
-    static WORK: Cell<Work> = const { Cell::new(NO_WORK) };
+    static WORK: RefCell<Work> = const { RefCell::new(NO_WORK) };
     static SIZES: RefCell<Vec<f64>> = const { RefCell::new(Vec::new()) };
+    static ROOTS: Cell<u64> = const { Cell::new(0) };
     static WATCHED: Cell<bool> = const { Cell::new(false) };
 }
 
 fn note(change: impl FnOnce(&mut Work)) {
-    let mut work = WORK.get();
-    change(&mut work);
-    WORK.set(work);
+    WORK.with_borrow_mut(change);
 }
 
 fn note_slot(change: impl FnOnce(&mut Slot)) {
@@ -112,6 +111,44 @@ fn crossed(crossing: Option<LonLat>) -> Option<LonLat> {
     crossing
 }
 
+/// Called on each root that is taken in the reference's own text.
+trait Counted {
+    fn counted(self) -> Self;
+}
+
+impl Counted for f64 {
+    fn counted(self) -> f64 {
+        count_roots(1);
+        self
+    }
+}
+
+fn count_roots(count: u64) {
+    ROOTS.set(ROOTS.get() + count);
+}
+
+/// The angle functions, with the roots that they take: two for an arctangent, one more for `acos`. Arguments that get neither are counted
+/// all the same.
+mod counted {
+    use super::count_roots;
+    use crate::angles;
+
+    pub fn atan2(y: f64, x: f64) -> f64 {
+        count_roots(2);
+        angles::atan2(y, x)
+    }
+
+    pub fn acos(c: f64) -> f64 {
+        count_roots(3);
+        angles::acos(c)
+    }
+}
+
+/// The number of roots taken so far.
+pub fn roots() -> u64 {
+    ROOTS.get()
+}
+
 /// Why the reference gave no answer.
 #[derive(Clone, Copy, Debug, PartialEq)]
 pub enum Panic {
@@ -128,7 +165,7 @@ pub struct Watched<T> {
 }
 
 pub fn watch<T>(work: impl FnOnce() -> T + panic::UnwindSafe) -> Watched<T> {
-    WORK.set(NO_WORK);
+    WORK.replace(NO_WORK);
     SIZES.with_borrow_mut(Vec::clear);
     WATCHED.set(true);
     let result =
@@ -138,7 +175,7 @@ pub fn watch<T>(work: impl FnOnce() -> T + panic::UnwindSafe) -> Watched<T> {
             _ => Panic::Other,
         });
     WATCHED.set(false);
-    let work = WORK.get();
+    let work = WORK.with_borrow(Work::clone);
     Watched { result, work }
 }
 

@@ -14,7 +14,7 @@ pub struct Coo3D {
 }
 
 // Whether from_sph_coo keeps the two angles as they are.
-fn in_range(lon: f64, lat: f64) -> bool
+pub fn in_range(lon: f64, lat: f64) -> bool
     ensures { λ r. ⌜ r ≡ inRange lon lat ⌝ }
 {
     (0.0 <= lon) & (lon < Coo3D::TWO_PI) & (-Coo3D::HALF_PI <= lat) & (lat <= Coo3D::HALF_PI)

@@ -2,9 +2,9 @@
 //!
 //! `compare_root [count]`, where `count` is the number of random patterns.
 
+use host::programs::count_argument;
 use host::random::Random;
 use host::{root, CANONICAL_NAN};
-use std::env;
 use std::process::ExitCode;
 
 const SEED: u64 = 0x526F_6F74;
@@ -51,12 +51,7 @@ impl Comparison {
 }
 
 fn expected_root(bits: u64) -> u64 {
-    let root = f64::from_bits(bits).sqrt();
-    if root.is_nan() {
-        CANONICAL_NAN
-    } else {
-        root.to_bits()
-    }
+    host::pattern(f64::from_bits(bits).sqrt())
 }
 
 fn with_neighbours(bits: u64) -> [u64; 3] {
@@ -183,21 +178,8 @@ fn closest_midpoints(random: &mut Random) -> Vec<u64> {
     patterns
 }
 
-fn random_count() -> Result<u64, String> {
-    let arguments: Vec<_> = env::args_os().skip(1).collect();
-    match arguments.as_slice() {
-        [] => Ok(DEFAULT_COUNT),
-        [count] => {
-            let count = count.to_string_lossy();
-            let parsed = count.parse();
-            parsed.map_err(|_| format!("`{count}` is not a number of random patterns"))
-        }
-        _ => Err("takes one argument, the number of random patterns".to_string()),
-    }
-}
-
 fn main() -> ExitCode {
-    let count = match random_count() {
+    let count = match count_argument("random patterns", DEFAULT_COUNT) {
         Ok(count) => count,
         Err(message) => {
             eprintln!("compare_root: {message}");

@@ -1,5 +1,6 @@
 //! Times `root` against the machine's square root.
 
+use host::programs::median;
 use host::random::Random;
 use host::root;
 use std::hint::black_box;
@@ -40,11 +41,6 @@ fn dependent(root: impl Fn(u64) -> u64, arguments: &[u64]) -> f64 {
         black_box(answer);
     }
     start.elapsed().as_nanos() as f64 / CALLS as f64
-}
-
-fn median(mut times: Vec<f64>) -> f64 {
-    times.sort_by(f64::total_cmp);
-    times[times.len() / 2]
 }
 
 /// Times the two sides by turns.

@@ -1,38 +1,58 @@
 //! Cones.
 
 use super::ends::transition_latitude;
-use super::{settings, Class, Cone, PolarCone, TRANSITION_Z};
+use super::{sin, Class, TRANSITION_Z};
+use crate::commands::{Command, EQUATORIAL_CONE, POLAR_CONE};
 use crate::random::Random;
 use std::f64::consts::{FRAC_PI_2, FRAC_PI_4, SQRT_2};
 
-pub const EQUATORIAL: [Class<Cone>; 3] = [
+pub const EQUATORIAL: [Class<Command>; 3] = [
     ("as the source advises", advised_in_eqr),
-    ("any", any),
-    ("boundary values", boundary),
+    ("any", |random| any(random).in_eqr()),
+    ("boundary values", |random| boundary(random).in_eqr()),
 ];
 
-pub const POLAR: [Class<PolarCone>; 3] = [
+pub const POLAR: [Class<Command>; 3] = [
     ("as the source advises", advised_in_pc),
     ("any", |random| {
         let cone = any(random);
-        polar(random.between(0.0, FRAC_PI_2), random, cone)
+        cone.in_pc(random.between(0.0, FRAC_PI_2), random.flip())
     }),
     ("boundary values", |random| {
         let cone = boundary(random);
-        polar(boundary_lon(random), random, cone)
+        cone.in_pc(boundary_lon(random), random.flip())
     }),
 ];
 
-pub fn advised_in_eqr(random: &mut Random) -> Cone {
-    let lat = random.between(-0.8, 0.8);
-    advised(random, lat, 0.8)
+struct Cone {
+    z: f64,
+    z0: f64,
+    radius: f64,
+    north: bool,
 }
 
-pub fn advised_in_pc(random: &mut Random) -> PolarCone {
+impl Cone {
+    fn in_eqr(self) -> Command {
+        let floats = [self.z, self.z0, self.radius];
+        Command::new(EQUATORIAL_CONE, floats, [self.north.into()])
+    }
+
+    fn in_pc(self, lon: f64, east: bool) -> Command {
+        let floats = [self.z, lon, self.z0, self.radius];
+        Command::new(POLAR_CONE, floats, [east.into(), self.north.into()])
+    }
+}
+
+pub fn advised_in_eqr(random: &mut Random) -> Command {
+    let lat = random.between(-0.8, 0.8);
+    advised(random, lat, 0.8).in_eqr()
+}
+
+pub fn advised_in_pc(random: &mut Random) -> Command {
     let lat = random.between(transition_latitude(), FRAC_PI_2);
     let lat = random.signed(lat);
     let cone = advised(random, lat, 0.9);
-    polar(random.between(0.0, FRAC_PI_2), random, cone)
+    cone.in_pc(random.between(0.0, FRAC_PI_2), random.flip())
 }
 
 /// The starting height that the source calls reasonable: so many radii from the centre.
@@ -46,11 +66,10 @@ fn advised(random: &mut Random, lat: f64, radii: f64) -> Cone {
             -radii * radius
         };
     Cone {
-        z: start.sin(),
-        z0: lat.sin(),
-        radius: 2.0 * (radius / 2.0).sin(),
+        z: sin(start),
+        z0: sin(lat),
+        radius: 2.0 * sin(radius / 2.0),
         north,
-        settings: settings(random),
     }
 }
 
@@ -60,7 +79,6 @@ fn any(random: &mut Random) -> Cone {
         z0: random.between(-1.0, 1.0),
         radius: 2.0 - random.between(0.0, 2.0),
         north: random.flip(),
-        settings: settings(random),
     }
 }
 
@@ -72,7 +90,6 @@ fn boundary(random: &mut Random) -> Cone {
         z0: boundary_height(random),
         radius: random.nudged(radius).clamp(5e-324, 2.0),
         north: random.flip(),
-        settings: settings(random),
     }
 }
 
@@ -91,9 +108,4 @@ fn boundary_lon(random: &mut Random) -> f64 {
     } else {
         lon
     }
-}
-
-fn polar(lon: f64, random: &mut Random, cone: Cone) -> PolarCone {
-    let east = random.flip();
-    PolarCone { lon, east, cone }
 }

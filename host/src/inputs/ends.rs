@@ -1,7 +1,8 @@
 //! The ends of arcs.
 
-use super::{Class, Ends, TRANSITION_Z};
-use crate::random::Random;
+use super::{asin, atan, cos, sin, Class, Ends, TRANSITION_Z};
+use crate::angles::{atan2, sin_cos};
+use crate::random::{ten_to, Random};
 use std::f64::consts::{FRAC_PI_2, FRAC_PI_4, PI, TAU};
 
 pub const CLASSES: [Class<Ends>; 24] = [
@@ -12,10 +13,7 @@ pub const CLASSES: [Class<Ends>; 24] = [
         let start = on_sphere(random);
         to_distance(random, start, -12.0, -1.0)
     }),
-    ("camera edges", |random| {
-        let start = on_sphere(random);
-        camera_edge(random, start)
-    }),
+    ("camera edges", camera_edges),
     ("about the short-arc limit", about_short_limit),
     ("about a point in the equator", special_in_eqr),
     ("about a point in a cap", special_in_cap),
@@ -40,7 +38,7 @@ pub const CLASSES: [Class<Ends>; 24] = [
 ];
 
 /// Lost points, panics and other arcs that every long run looks at.
-const KEPT: [Ends; 9] = [
+const KEPT: [Ends; 15] = [
     // Document 01: the cross product is zero, status 10.
     [0.0, 0.8, PI, -0.8],
     // An edge of 13 degrees over longitude 0: the piece before it has a special point, and is not looked at.
@@ -57,7 +55,7 @@ const KEPT: [Ends; 9] = [
         5.100515243810453,
         -1.2819248996380908,
     ],
-    // Over longitude 0 too; turned by π/2, where all of it is looked at, it gets no point either.
+    // Over longitude 0 too, but without a special point: turned by π/2, where all of it is looked at, it gets none either.
     [
         5.300472554243618,
         -1.381271999891891,
@@ -98,6 +96,46 @@ const KEPT: [Ends; 9] = [
         0.7297276562269666,
         6.183220448695921,
         0.7059050760776105,
+    ],
+    // Kinds that are seldom met in a slot of a cap. In the south's first slot, kind 4.
+    [
+        0.1816778035289496,
+        -1.5707962883028468,
+        4.26884266747075,
+        -1.570793428530549,
+    ],
+    // In the second, kinds 4 and 5.
+    [
+        2.012242294782802,
+        -1.5707962736080356,
+        0.269194960403493,
+        -1.570796278241366,
+    ],
+    [
+        0.8670490485521686,
+        -1.0868786920554634,
+        1.7250617115441185,
+        -0.9417814094172982,
+    ],
+    // In the north's first slot, kind 4.
+    [
+        4.626854291877986,
+        1.5707962315620425,
+        1.0178186596470695,
+        -0.828738640758121,
+    ],
+    // In the second, kinds 4 and 5.
+    [
+        2.784786911512229,
+        1.570796296184804,
+        4.274168697634087,
+        1.5707925045622864,
+    ],
+    [
+        2.7389400630263547,
+        1.0236653468532058,
+        3.1960199840516066,
+        0.894857053325069,
     ],
 ];
 
@@ -152,7 +190,7 @@ fn in_half_turn(lat: f64) -> f64 {
 }
 
 pub fn transition_latitude() -> f64 {
-    TRANSITION_Z.asin()
+    asin(TRANSITION_Z)
 }
 
 fn any_lon(random: &mut Random) -> f64 {
@@ -160,7 +198,7 @@ fn any_lon(random: &mut Random) -> f64 {
 }
 
 fn any_lat(random: &mut Random) -> f64 {
-    random.between(-1.0, 1.0).asin()
+    asin(random.between(-1.0, 1.0))
 }
 
 fn on_sphere(random: &mut Random) -> Point {
@@ -169,23 +207,23 @@ fn on_sphere(random: &mut Random) -> Point {
 
 /// A latitude within a cap, north or south.
 fn cap_lat(random: &mut Random) -> f64 {
-    let lat = random.between(TRANSITION_Z, 1.0).asin();
+    let lat = asin(random.between(TRANSITION_Z, 1.0));
     random.signed(lat)
 }
 
 /// The point at this distance, in the direction that is so far east of north.
 fn towards([lon, lat]: Point, bearing: f64, distance: f64) -> Point {
-    let (sin_lon, cos_lon) = lon.sin_cos();
-    let (sin_lat, cos_lat) = lat.sin_cos();
-    let (along, ahead) = distance.sin_cos();
-    let (east, north) = (along * bearing.sin(), along * bearing.cos());
+    let (sin_lon, cos_lon) = sin_cos(lon);
+    let (sin_lat, cos_lat) = sin_cos(lat);
+    let (along, ahead) = sin_cos(distance);
+    let (east, north) = (along * sin(bearing), along * cos(bearing));
     let out = ahead * cos_lat - north * sin_lat;
     let (x, y) = (
         out * cos_lon - east * sin_lon,
         out * sin_lon + east * cos_lon,
     );
     let z = ahead * sin_lat + north * cos_lat;
-    [y.atan2(x), z.atan2(x.hypot(y))]
+    [atan2(y, x), atan2(z, (x * x + y * y).sqrt())]
 }
 
 fn at_distance(random: &mut Random, start: Point, distance: f64) -> Point {
@@ -202,6 +240,12 @@ fn to_distance(random: &mut Random, start: Point, low: f64, high: f64) -> Ends {
 fn camera_edge(random: &mut Random, start: Point) -> Ends {
     let distance = random.between(0.0, 20f64.to_radians());
     joined(start, at_distance(random, start, distance))
+}
+
+/// All over the sky.
+pub fn camera_edges(random: &mut Random) -> Ends {
+    let start = on_sphere(random);
+    camera_edge(random, start)
 }
 
 /// Of a length about (1/3600) × (180/π), where the short-arc rule ends.
@@ -225,7 +269,7 @@ fn through(random: &mut Random, point: Point, bearing: f64, low: f64, high: f64)
 
 /// The direction in which an arc has a slope of one on the projection plane, for a derivative of the longitude by the height.
 fn bearing_of(derivative: f64, lat: f64) -> f64 {
-    (derivative * lat.cos().powi(2)).atan()
+    atan(derivative * cos(lat) * cos(lat))
 }
 
 /// Around a special point of any region, or two of a cap.
@@ -252,7 +296,7 @@ fn special_in_cap(random: &mut Random) -> Ends {
 /// Around a special point in a cap so close to a quarter's border that the arc may cross it.
 fn special_at_border(random: &mut Random) -> Ends {
     let power = random.between(-12.0, -0.5);
-    let off = 10f64.powf(power);
+    let off = ten_to(power);
     let in_quarter = random.one_of(&[off, FRAC_PI_2 - off]);
     let (point, bearing) = point_in_quarter(random, in_quarter);
     through(random, point, bearing, power - 1.0, power + 2.0)
@@ -260,7 +304,7 @@ fn special_at_border(random: &mut Random) -> Ends {
 
 /// A point of the equatorial region and the direction in which it is special: that derivative is ±3π/8.
 fn point_in_eqr(random: &mut Random) -> (Point, f64) {
-    let lat = random.between(-TRANSITION_Z, TRANSITION_Z).asin();
+    let lat = asin(random.between(-TRANSITION_Z, TRANSITION_Z));
     let derivative = random.signed(1.5 * FRAC_PI_4);
     ([any_lon(random), lat], bearing_of(derivative, lat))
 }
@@ -274,7 +318,7 @@ fn point_in_cap(random: &mut Random) -> (Point, f64) {
 fn point_in_quarter(random: &mut Random, in_quarter: f64) -> (Point, f64) {
     let lat = cap_lat(random);
     let way = random.one_of(&[in_quarter, in_quarter - FRAC_PI_2]);
-    let derivative = (0.5 * way / (1.0 - lat.sin().abs())).copysign(way * lat);
+    let derivative = (0.5 * way / (1.0 - sin(lat).abs())).copysign(way * lat);
     let lon = random.below(4) as f64 * FRAC_PI_2 + in_quarter;
     ([lon, lat], bearing_of(derivative, lat))
 }
@@ -286,10 +330,9 @@ fn special_in_two_quarters(random: &mut Random) -> Ends {
     let middle = (1 + random.below(3)) as f64 * FRAC_PI_2 + FRAC_PI_4;
     let top = random.between(-0.02, 0.02);
     let top_lat = random.between(0.96, 0.99);
-    let steepness = random.signed(top_lat.tan());
+    let steepness = random.signed(sin(top_lat) / cos(top_lat));
     let [west, east] = [-1.0, 1.0].map(|side| side * (FRAC_PI_4 + random.between(0.05, 0.15)));
-    let [start, end] =
-        [west, east].map(|lon| [middle + lon, (steepness * (lon - top).cos()).atan()]);
+    let [start, end] = [west, east].map(|lon| [middle + lon, atan(steepness * cos(lon - top))]);
     joined(start, end)
 }
 
@@ -430,7 +473,7 @@ pub fn near_meridian(random: &mut Random) -> Ends {
     let steepness = random.power_of_ten(-3.0, 4.0);
     let steepness = random.signed(steepness);
     let [lon1, lon2] = [any_lon(random), any_lon(random)];
-    let [lat1, lat2] = [lon1, lon2].map(|lon| (steepness * lon.cos()).atan());
+    let [lat1, lat2] = [lon1, lon2].map(|lon| atan(steepness * cos(lon)));
     joined([lon1, lat1], [lon2, lat2 + off])
 }
 

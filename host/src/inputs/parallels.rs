@@ -1,11 +1,11 @@
 //! Arcs and the heights at which they are crossed.
 
 use super::cones::boundary_height;
-use super::{ends, Class, Ends, Parallel, TRANSITION_Z};
-use crate::angles;
+use super::{ends, sin, Class, Ends, TRANSITION_Z};
+use crate::commands::{Command, PARALLEL};
 use crate::random::Random;
 
-pub const CLASSES: [Class<Parallel>; 8] = [
+pub const CLASSES: [Class<Command>; 8] = [
     ("between the ends", |random| {
         let ends = any_ends(random);
         at(ends, between(random, ends))
@@ -45,7 +45,7 @@ fn any_ends(random: &mut Random) -> Ends {
 
 /// The heights of both ends, as the finder works them out.
 fn heights([_, lat1, _, lat2]: Ends) -> [f64; 2] {
-    [lat1, lat2].map(|lat| angles::sin_cos(lat).0)
+    [lat1, lat2].map(sin)
 }
 
 fn between(random: &mut Random, ends: Ends) -> f64 {
@@ -53,7 +53,6 @@ fn between(random: &mut Random, ends: Ends) -> f64 {
     random.between(z1, z2)
 }
 
-fn at(ends: Ends, z: f64) -> Parallel {
-    let z = z.clamp(-1.0, 1.0);
-    Parallel { ends, z }
+fn at([lon1, lat1, lon2, lat2]: Ends, z: f64) -> Command {
+    Command::new(PARALLEL, [lon1, lat1, lon2, lat2, z.clamp(-1.0, 1.0)], [])
 }

@@ -1,8 +1,7 @@
 -- Each return is the branch of `orderedPlanInPc` that the tests chose; the callees' contracts give the values in it.
 use Rattle.special_points_finder.specs.Caps.{orderedPlanInPc}
 use borrow.Author.Needs.{needs}
-use borrow.Author.Tests.{eq-eqb}
-use borrow.Author.Tests.{ne-eqb}
+use borrow.Author.Tests.{eq-eqb, ne-eqb}
 use Rattle.special_points_finder.proofs.cap.ordered_plan_in_pc.Statement.{statement}
 use Rattle.special_points_finder.proofs.cap.ordered_plan_in_pc.Tie as tie
 

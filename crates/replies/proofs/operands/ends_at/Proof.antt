@@ -1,0 +1,24 @@
+-- The code is `endsAt` written out, by `float_at`'s contract.
+use Rattle.replies.specs.Operands.{endsAt}
+use borrow.Author.Needs.{needs}
+use Rattle.replies.proofs.operands.ends_at.Statement.{statement}
+use Rattle.replies.proofs.operands.ends_at.Tie as tie
+
+float-at-requires : tie.Need-float-at-requires
+float-at-requires c κs = search needs
+
+float-at-requires-2 : tie.Need-float-at-requires-2
+float-at-requires-2 c κs = search needs
+
+float-at-requires-3 : tie.Need-float-at-requires-3
+float-at-requires-3 c κs = search needs
+
+float-at-requires-4 : tie.Need-float-at-requires-4
+float-at-requires-4 c κs = search needs
+
+returns : tie.Need-returns
+unfolding endsAt
+returns c = simp (← c .float-at4 .ensures, ← c .before .float-at3 .ensures, ← c .before .before .float-at2 .ensures, ← c .before .before .before .float-at .ensures)
+
+pub ends-at-spec : {M : Type 1} → statement M
+ends-at-spec = tie.close (tie.spec float-at-requires float-at-requires-2 float-at-requires-3 float-at-requires-4 returns)

@@ -1,0 +1,3 @@
+pub mod Eight
+pub mod Lengths
+pub mod Parts

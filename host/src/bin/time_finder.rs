@@ -1,0 +1,14 @@
+//! Times the finder against the reference on the same arcs and cones. A benchmark and no test.
+
+use std::process::ExitCode;
+
+#[cfg(reference)]
+fn main() -> ExitCode {
+    host::timing::run();
+    ExitCode::SUCCESS
+}
+
+#[cfg(not(reference))]
+fn main() -> ExitCode {
+    host::programs::not_run("time_finder")
+}

@@ -1,0 +1,6 @@
+//! The reference with document 01's angle functions and nothing else changed: for timing.
+
+include!(concat!(env!("OUT_DIR"), "/plain_reference.rs"));
+
+pub use special_points_finder::*;
+pub use sph_geom::coo3d::*;
