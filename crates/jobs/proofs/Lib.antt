@@ -1,4 +1,6 @@
+pub mod Items
 pub mod Files
+pub mod Passes
 pub mod Alike
 pub mod Last
 pub mod TwoFiles

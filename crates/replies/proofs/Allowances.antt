@@ -9,7 +9,6 @@ use mathlib.Core.Path.{_≡_, refl, ap}
 use mathlib.Core.Bool.{Bool, true, false, cond, and-false}
 use mathlib.Core.List.{List, [], _∷_}
 use mathlib.Core.Logic.{_↔_}
-use Rattle.newton.specs.declared.walk.Start.{Start}
 use Rattle.special_points_finder.specs.Plans.{slotAt, slotsOf, stepsOf, walksIn, capSlotsAt}
 use Rattle.special_points_finder.specs.Arcs.{arcAt, arcWalks, slotsAt, slotsIn}
 use Rattle.special_points_finder.specs.Allowances.{AllEqualOrEnd}
@@ -31,6 +30,7 @@ use Rattle.replies.specs.declared.settings.Allowance.{Allowance}
 use Rattle.replies.specs.declared.settings.Allowance.the-variants as allowance
 use Rattle.replies.specs.declared.settings.Settings.{Settings}
 use Rattle.replies.specs.declared.reply.Reply.the-variants.{Refused, Cone}
+use Rattle.replies.proofs.Cases.{by-test, either-way}
 
 -- an answer with two allowances, in the bytes of a reply
 module _ (precision : Float) (code a b : ℕ) where
@@ -135,10 +135,6 @@ command-allowances s t code b d l o = by (eqb code 2) refl
     by true e = rw (eqb-true code 2 e) (two s t l b d)
     by false e = rw (← o e) (same-operands s t l code b)
 
-either : {A : Type 0} (P : A → Type 0) (x : Bool) {u v : A} → P u → P v → P (cond x u v)
-either P true p q = p
-either P false p q = q
-
 module _ (s : Settings) where
   abbrev Keeps : Operands → Type 0
   Keeps o = changed s o .allowance ≡ s .allowance
@@ -146,26 +142,26 @@ module _ (s : Settings) where
   kept : (o : Operands) → Keeps o → after s o .allowance ≡ s .allowance
   unfolding after
   kept o keeps =
-      either (λ (r : Settings). r .allowance ≡ s .allowance) (eqb (refusalOf s o) 0) {u = changed s o} {v = s} keeps refl
+      by-test (λ (r : Settings). r .allowance ≡ s .allowance) (eqb (refusalOf s o) 0) {u = changed s o} {v = s} (λ e. keeps) (λ e. refl)
 
   keeps-unless-two : (code : ℕ) (b : List ℕ) → eqb code 2 ≡ false → Keeps (operandsOf code b)
   unfolding operandsOf coneInEqrOf coneInPcOf parallelOf
   keeps-unless-two code b e =
       let is : ℕ → Bool = eqb code in
-      rw e (either Keeps (is 1) refl (either Keeps (is 3) refl (either Keeps (is 4) refl (either Keeps (is 5) refl refl))))
+      rw e
+      (by-test Keeps (is 1) (λ x. refl)
+      (λ x. by-test Keeps (is 3) (λ x. refl)
+      (λ x. by-test Keeps (is 4) (λ x. refl)
+      (λ x. by-test Keeps (is 5) (λ x. refl) (λ x. refl)))))
 
   set-by-two : (b : List ℕ) → after s (operandsOf 2 b) .allowance ≡ allowance.Set (getD b 0 0)
   unfolding operandsOf after refusalOf needsSettings areFinite areFlags areInRange
   set-by-two b = refl
 
-by-test : {x u v : Allowance} (b : Bool) → (b ≡ true → x ≡ u) → (b ≡ false → x ≡ v) → x ≡ cond b u v
-by-test true p q = p refl
-by-test false p q = q refl
-
 -- What a command leaves of the allowance.
 pub allowance-after : AllowanceAfter
 allowance-after s code b =
-    by-test (eqb code 2)
+    by-test (λ (a : Allowance). after s (operandsOf code b) .allowance ≡ a) (eqb code 2)
     (λ e. rw (eqb-true code 2 e) (set-by-two s b))
     (λ e. kept s (operandsOf code b) (keeps-unless-two s code b e))
 
@@ -173,16 +169,12 @@ not-ready : (s : Settings) → s .allowance ≡ allowance.Unset → ready s ≡ 
 unfolding ready
 not-ready s u = rw u (and-false (hasPrecision (s .precision)))
 
-none-anyway : (x : Bool) → cond {A = List Start} x [] [] ≡ []
-none-anyway true = refl
-none-anyway false = refl
-
 -- Without an allowance, no walk.
 pub none-unset : NoneUnset
 unfolding walksOf plansOf walksIn refusalOf needsSettings
-none-unset s (operands.Precision p) u = simp none-anyway
-none-unset s (operands.Allowance n) u = simp none-anyway
+none-unset s (operands.Precision p) u = simp either-way
+none-unset s (operands.Allowance n) u = simp either-way
 none-unset s (operands.Arc e) u = rw (not-ready s u)
 none-unset s (operands.ConeInEqr r north) u = rw (not-ready s u)
 none-unset s (operands.ConeInPc r lon east north) u = rw (not-ready s u)
-none-unset s (operands.Parallel e z) u = simp none-anyway
+none-unset s (operands.Parallel e z) u = simp either-way

@@ -5,7 +5,6 @@ use lib.ListN.{length, length-append, length-replicate}
 use Prim.Native.Nat.{ℕ, _+_, _≤_}
 use native.Mathlib.Omega.{arith}
 use mathlib.Core.Path.{_≡_, refl}
-use mathlib.Core.Bool.{Bool, true, false, cond}
 use mathlib.Core.List.{List}
 use Rattle.special_points_finder.specs.Answers.{numbersOf}
 use Rattle.special_points_finder.specs.Arcs.{arcAt}
@@ -26,7 +25,7 @@ use Rattle.replies.specs.Bytes.{walkBytes, coneBytes, slotBytes, capByte
 use Rattle.replies.specs.declared.settings.Settings.{Settings}
 use Rattle.replies.specs.declared.reply.Reply.{Reply}
 use Rattle.replies.specs.declared.reply.Reply.the-variants.{Refused}
-use Rattle.replies.proofs.Codes.{by-code}
+use Rattle.replies.proofs.Cases.{by-code, by-test}
 
 pub length-walk : (n : Numbers) (steps : ℕ) → length (walkBytes n steps) ≡ 10
 unfolding walkBytes
@@ -57,10 +56,6 @@ fits-refused : (number width : ℕ) → Fits (Refused number) width
 unfolding answerBytes
 fits-refused number width = length-replicate width 0
 
-fits-unless : (b : Bool) (r : Reply) (number width : ℕ) → Fits r width → Fits (cond b r (Refused number)) width
-fits-unless true r number width f = f
-fits-unless false r number width f = fits-refused number width
-
 fits-arc : (a : ArcAnswer) → Fits (arcReply a) 90
 unfolding arcReply answerBytes
 fits-arc (arc.Slots s) = length-slots s
@@ -88,7 +83,9 @@ module _ (s : Settings) (code : ℕ) (b : List ℕ) (low : 1 ≤ code) (high : c
       let o = operandsOf code b in
       let p = precisionOf (s .precision) in
       let n = allowanceOf (s .allowance) in
-      fits-unless (eqb (refusalOf s o) 0) (answerTo p n o) (refusalOf s o) (answerWidth code) (fits-answer p n)
+      by-test (λ (r : Reply). Fits r (answerWidth code)) (eqb (refusalOf s o) 0)
+      (λ e. fits-answer p n)
+      (λ e. fits-refused (refusalOf s o) (answerWidth code))
 
   pub length-reply : length (replyOf s code b) ≡ 2 + answerWidth code
   unfolding replyOf replyBytes

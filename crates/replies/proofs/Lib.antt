@@ -1,3 +1,3 @@
-pub mod Codes
+pub mod Cases
 pub mod Lengths
 pub mod Allowances

@@ -1,12 +1,27 @@
--- A buffer that is written part by part from its start: what is written so far, then the bytes at entry.
-use lib.ListN.{length, drop, length-append, drop-of-length-le}
-use lib.Seq.{take-at, drop-at, drop-drop}
+-- A buffer of which parts are lent and come back: a part in its middle, and parts one after the other from its start.
+use lib.ListN.{length, take, drop, length-append, length-take, length-drop, drop-of-length-le}
+use lib.Seq.{take-at, drop-at, drop-drop, length-take-le}
 use borrow.Rule.Slice.PartMut.{putMid}
 use Prim.Native.Nat.{ℕ, _+_, _≤_}
 use native.Mathlib.Omega.{arith}
 use mathlib.Core.Path.{_≡_, refl, _∙_}
 use mathlib.Core.List.{List, [], _++_, append-nil, append-assoc}
 
+-- a part that came back, up to its end and past it
+module _ (xs ys : List ℕ) (a k : ℕ) (h : a + k ≤ length xs) (l : length ys ≡ k) where
+  up : length (take a xs ++ ys) ≡ a + k
+  up = length-append (take a xs) ys ∙ rw (length-take-le a xs (omega arith), l) refl
+
+  pub take-mid : take (a + k) (putMid a k xs ys) ≡ take a xs ++ ys
+  take-mid = rw (← append-assoc) (take-at (take a xs ++ ys) (drop k (drop a xs)) (a + k) up)
+
+  pub drop-mid : drop (a + k) (putMid a k xs ys) ≡ drop k (drop a xs)
+  drop-mid = rw (← append-assoc) (drop-at (take a xs ++ ys) (drop k (drop a xs)) (a + k) up)
+
+pub length-mid : (a k : ℕ) (xs ys : List ℕ) → a + k ≤ length xs → length ys ≡ k → length (putMid a k xs ys) ≡ length xs
+length-mid a k xs ys h e = simp (length-append, length-take, length-drop) (omega arith)
+
+-- a buffer that is written part by part: what is written so far, then the bytes at entry
 pub record Upto (now old file : List ℕ) (at : ℕ) : Type 0 where
   pub is : now ≡ file ++ drop at old
   pub long : length file ≡ at

@@ -7,7 +7,9 @@ use mathlib.Core.Path.{_≡_, sym, ap, _∙_}
 use Rattle.jobs.specs.declared.file.Checked.the-variants as checked
 use Rattle.jobs.specs.Files.{fileOf}
 use Rattle.jobs.specs.Passes.{checkedOf}
-use Rattle.jobs.proofs.Files.{parsedAt, commandAt, at-item, good-item, checked-before, refused-size, sized, not-too-long}
+use Rattle.jobs.proofs.Items.{parsedAt, commandAt, at-item, good-item}
+use Rattle.jobs.proofs.Files.{refused-size, sized, not-too-long}
+use Rattle.jobs.proofs.Passes.{checked-before}
 use Rattle.jobs.proofs.file.check.Statement.{statement}
 use Rattle.jobs.proofs.file.check.Tie as tie
 

@@ -16,10 +16,13 @@ use Rattle.replies.specs.Replies.{replyTo}
 use Rattle.replies.specs.Bytes.{Fits, replyBytes, replyOf}
 use Rattle.replies.specs.declared.settings.Settings.{Settings}
 use Rattle.replies.specs.declared.reply.Reply.{Reply}
+use Rattle.words.proofs.Parts.{length-mid}
 use Rattle.replies.proofs.Lengths.{reply-fits, length-reply}
 use Rattle.jobs.specs.Files.{Parsed, before, fileOf, leaves}
 use Rattle.jobs.specs.Passes.{Fitting, filled}
-use Rattle.jobs.proofs.Files.{parsedAt, commandAt, at-item, good-item, fit-here, fit-next, fitting-parsed, length-mid, pass}
+use Rattle.jobs.proofs.Items.{parsedAt, commandAt, at-item, good-item}
+use Rattle.jobs.proofs.Files.{fitting-parsed}
+use Rattle.jobs.proofs.Passes.{fit-here, fit-next, pass}
 use Rattle.jobs.proofs.file.run.Statement.{statement}
 use Rattle.jobs.proofs.file.run.Tie as tie
 

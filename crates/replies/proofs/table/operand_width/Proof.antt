@@ -4,7 +4,7 @@ use lib.Dec.{lit≤}
 use Prim.Native.Nat.{ℕ, _≤_}
 use mathlib.Core.Path.{refl}
 use Rattle.replies.specs.Table.{operandWidth}
-use Rattle.replies.proofs.Codes.{by-code}
+use Rattle.replies.proofs.Cases.{by-code}
 use Rattle.replies.proofs.table.operand_width.Statement.{statement}
 use Rattle.replies.proofs.table.operand_width.Tie as tie
 

@@ -5,7 +5,7 @@ use Prim.Native.Nat.{ℕ, _≤_}
 use native.Mathlib.Omega.{arith}
 use mathlib.Core.Path.{refl}
 use Rattle.replies.specs.Table.{answerWidth}
-use Rattle.replies.proofs.Codes.{by-code}
+use Rattle.replies.proofs.Cases.{by-code}
 use Rattle.replies.proofs.table.reply_width.Statement.{statement}
 use Rattle.replies.proofs.table.reply_width.Tie as tie
 

@@ -1,15 +1,9 @@
 -- By the operands. A refused 01 changes nothing, and no other command is asked whether it was refused: it changes nothing either way.
-use mathlib.Core.Path.{_≡_, refl}
-use mathlib.Core.Bool.{Bool, true, false, cond}
 use Rattle.replies.specs.Refusals.{needsSettings, areFinite, areFlags, areInRange, refusalOf, after}
-use Rattle.replies.specs.declared.settings.Settings.{Settings}
+use Rattle.replies.proofs.Cases.{either-way}
 use borrow.Author.Needs.{needs}
 use Rattle.replies.proofs.settings.Settings.after.Statement.{statement}
 use Rattle.replies.proofs.settings.Settings.after.Tie as tie
-
-either : (b : Bool) (s : Settings) → cond b s s ≡ s
-either true s = refl
-either false s = refl
 
 enum-known-o : tie.Need-enum-known-o
 enum-known-o c = search needs
@@ -46,19 +40,19 @@ returns-3 c = simp (c .before .o2 .given .1)
 
 returns-4 : tie.Need-returns-4
 unfolding after
-returns-4 c = simp (c .enum-told .given .1, either)
+returns-4 c = simp (c .enum-told .given .1, either-way)
 
 returns-5 : tie.Need-returns-5
 unfolding after
-returns-5 c = simp (c .enum-told2 .given .1, either)
+returns-5 c = simp (c .enum-told2 .given .1, either-way)
 
 returns-6 : tie.Need-returns-6
 unfolding after
-returns-6 c = simp (c .enum-told3 .given .1, either)
+returns-6 c = simp (c .enum-told3 .given .1, either-way)
 
 returns-7 : tie.Need-returns-7
 unfolding after
-returns-7 c = simp (c .enum-told4 .given .1, either)
+returns-7 c = simp (c .enum-told4 .given .1, either-way)
 
 pub after-spec : {M : Type 1} → statement M
 after-spec = tie.close (tie.spec enum-known-o is-finite-requires enum-known-o-2 enum-told enum-told-2 enum-told-3 enum-told-4 returns returns-2 returns-3 returns-4 returns-5 returns-6 returns-7)
