@@ -1,27 +1,31 @@
 //! `finder_run` against the reference, on the same jobs.
 
-use crate::commands::{Command, ARC, EQUATORIAL_CONE, POLAR_CONE, REPLY_BUFFER};
+use crate::commands::{
+    Command, ARC, END, EQUATORIAL_CONE, MOST_BYTES, PARALLEL, POLAR_CONE, REPLY_BUFFER,
+};
 use crate::inputs::ends::{camera_edges, transition_latitude};
-use crate::inputs::{cones, Class, Ends};
+use crate::inputs::{cones, parallels, Class, Ends};
 use crate::plain_reference::{
-    arc_special_points, cone_special_point_in_eqr, cone_special_point_in_pc, Coo3D,
+    arc_special_points, cone_special_point_in_eqr, cone_special_point_in_pc, intersect_parallel,
+    Coo3D,
 };
 use crate::programs::median;
 use crate::random::Random;
 use crate::rules::{self, Settings};
-use crate::{finder, job_files, reference};
+use crate::{finder, reference};
 use std::hint::black_box;
 use std::time::Instant;
 
 const SEED: u64 = 0x4172_6373;
-const JOBS: usize = 10_000;
+/// The files of each class. So many that a file is new to the branch predictor whenever its turn comes: it learns one that is repeated.
+const FILES: usize = 60;
 const ROUNDS: usize = 51;
 const PRECISION: f64 = 1e-9;
 const ALLOWANCE: u8 = 20;
-/// So many polar cones, the widest jobs here, stay with settings and 00 within the 16,384 bytes of a file.
-const JOBS_OF_FILE: usize = 460;
+/// Room for a parallel, the widest command, and for 00.
+const ROOM: usize = 42;
 
-const CLASSES: [Class<Command>; 5] = [
+const CLASSES: [Class<Command>; 6] = [
     ("arcs on the equator", |random| {
         edge(random, |[_, lat1, _, lat2]| {
             lat1.abs().max(lat2.abs()) < transition_latitude()
@@ -37,6 +41,7 @@ const CLASSES: [Class<Command>; 5] = [
     }),
     ("cones in the equator", cones::advised_in_eqr),
     ("cones in the caps", cones::advised_in_pc),
+    ("parallels, settings between them", parallel_or_setting),
 ];
 
 /// A camera's edge of up to 20 degrees of which this holds.
@@ -49,27 +54,50 @@ fn edge(random: &mut Random, holds: fn(Ends) -> bool) -> Command {
     }
 }
 
-/// Jobs of a class, without those at which the reference panics, and the roots that one costs the reference: those of its text and of
-/// document 01's angle functions.
-fn jobs(draw: fn(&mut Random) -> Command) -> (Vec<Command>, f64) {
-    let random = &mut Random::new(SEED);
-    let settings = Settings::new(PRECISION, ALLOWANCE);
-    let mut jobs = Vec::new();
-    let mut roots = 0;
-    while jobs.len() < JOBS {
-        let job = draw(random);
-        let before = reference::roots();
-        if rules::reply(&job, &settings).panic.is_none() {
-            roots += reference::roots() - before;
-            jobs.push(job);
-        }
+/// A camera's edge and a parallel at any height, or a setting. Few edges cross theirs, so these jobs are small, and show what the finder
+/// spends on a command beside its answer.
+fn parallel_or_setting(random: &mut Random) -> Command {
+    match random.below(3) {
+        0 => Command::precision(PRECISION),
+        1 => Command::allowance(ALLOWANCE),
+        _ => parallels::at(camera_edges(random), random.between(-1.0, 1.0)),
     }
-    (jobs, roots as f64 / JOBS as f64)
 }
 
-fn file(jobs: &[Command]) -> Vec<u8> {
-    let settings = [Command::precision(PRECISION), Command::allowance(ALLOWANCE)];
-    job_files::file_of(&[&settings, jobs].concat())
+struct File {
+    bytes: Vec<u8>,
+    /// Its commands but for the settings: these have no counterpart in the reference, and only add to the finder's time for the jobs.
+    jobs: Vec<Command>,
+}
+
+/// A full file of commands of a class, without those at which the reference panics.
+fn file(random: &mut Random, draw: fn(&mut Random) -> Command) -> File {
+    let settings = Settings::new(PRECISION, ALLOWANCE);
+    let (mut bytes, mut jobs) = (Vec::new(), Vec::new());
+    Command::precision(PRECISION).write(&mut bytes);
+    Command::allowance(ALLOWANCE).write(&mut bytes);
+    while bytes.len() + ROOM <= MOST_BYTES {
+        let command = draw(random);
+        if rules::reply(&command, &settings).panic.is_some() {
+            continue;
+        }
+        command.write(&mut bytes);
+        if matches!(command.code, ARC | EQUATORIAL_CONE | POLAR_CONE | PARALLEL) {
+            jobs.push(command);
+        }
+    }
+    bytes.push(END);
+    File { bytes, jobs }
+}
+
+/// The roots that the jobs of these files cost the reference: those of its text and of document 01's angle functions.
+fn roots(files: &[File]) -> u64 {
+    let settings = Settings::new(PRECISION, ALLOWANCE);
+    let before = reference::roots();
+    for job in files.iter().flat_map(|file| &file.jobs) {
+        rules::reply(job, &settings);
+    }
+    reference::roots() - before
 }
 
 /// The nanoseconds that the file takes in the finder.
@@ -91,7 +119,7 @@ fn time_reference(jobs: &[Command]) -> f64 {
 }
 
 fn run_reference(job: &Command) {
-    let [a, b, c, d, _] = job.floats;
+    let [a, b, c, d, e] = job.floats;
     let [byte1, byte2] = job.bytes.map(|byte| byte == 1);
     match job.code {
         ARC => {
@@ -108,22 +136,22 @@ fn run_reference(job: &Command) {
                 a, b, c, d, byte1, byte2, PRECISION, ALLOWANCE,
             ));
         }
+        PARALLEL => {
+            let (p1, p2) = (Coo3D::from_sph_coo(a, b), Coo3D::from_sph_coo(c, d));
+            black_box(intersect_parallel(&p1, &p2, e).map(|vector| vector.lonlat()));
+        }
         code => unreachable!("no class has code {code:02x}"),
     }
 }
 
 /// Times both sides by turns, file by file, and gives the sum of each side's medians over the rounds.
-fn times(jobs: &[Command]) -> [f64; 2] {
+fn times(files: &[File]) -> [f64; 2] {
     let mut reply = vec![0; REPLY_BUFFER];
-    let files: Vec<_> = jobs
-        .chunks(JOBS_OF_FILE)
-        .map(|jobs| (file(jobs), jobs))
-        .collect();
     let mut times = vec![(Vec::new(), Vec::new()); files.len()];
     for _ in 0..ROUNDS {
-        for ((file, jobs), (finder, reference)) in files.iter().zip(&mut times) {
-            finder.push(time_finder(file, &mut reply));
-            reference.push(time_reference(jobs));
+        for (file, (finder, reference)) in files.iter().zip(&mut times) {
+            finder.push(time_finder(&file.bytes, &mut reply));
+            reference.push(time_reference(&file.jobs));
         }
     }
     let medians = times
@@ -136,10 +164,13 @@ fn times(jobs: &[Command]) -> [f64; 2] {
 /// Times each class.
 pub fn run() {
     reference::silence_watched_panics();
-    println!("time per job, of {JOBS} jobs in each class; medians of {ROUNDS} rounds");
+    println!("time per job, of {FILES} full files in each class; medians of {ROUNDS} rounds");
     for (name, draw) in CLASSES {
-        let (jobs, roots) = jobs(draw);
-        let [finder, reference] = times(&jobs).map(|time| time / JOBS as f64);
+        let random = &mut Random::new(SEED);
+        let files: Vec<_> = (0..FILES).map(|_| file(random, draw)).collect();
+        let jobs = files.iter().map(|file| file.jobs.len()).sum::<usize>() as f64;
+        let roots = roots(&files) as f64 / jobs;
+        let [finder, reference] = times(&files).map(|time| time / jobs);
         let ratio = finder / reference;
         println!(
             "{name}: finder {finder:.0} ns, reference {reference:.0} ns, ratio {ratio:.2}; \

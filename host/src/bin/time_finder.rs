@@ -1,4 +1,4 @@
-//! Times the finder against the reference on the same arcs and cones. A benchmark and no test.
+//! Times the finder against the reference on the same arcs, cones and parallels. A benchmark and no test.
 
 use std::process::ExitCode;
 

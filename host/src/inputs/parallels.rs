@@ -53,6 +53,6 @@ fn between(random: &mut Random, ends: Ends) -> f64 {
     random.between(z1, z2)
 }
 
-fn at([lon1, lat1, lon2, lat2]: Ends, z: f64) -> Command {
+pub fn at([lon1, lat1, lon2, lat2]: Ends, z: f64) -> Command {
     Command::new(PARALLEL, [lon1, lat1, lon2, lat2, z.clamp(-1.0, 1.0)], [])
 }
