@@ -23,7 +23,7 @@ fn word(s: &[u8]) -> u64
 }
 
 // The k-th operand of eight bytes, as a number.
-pub fn word_at(operands: &[u8], k: usize) -> u64
+fn word_at(operands: &[u8], k: usize) -> u64
     requires { ⌜ (k < 8) × (8 * k + 8 ≤ length (now operands)) ⌝ }
     ensures { λ r. ⌜ r ≡ wordAt (now (operands .entry)) k ⌝ }
 {
