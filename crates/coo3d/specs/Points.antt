@@ -15,15 +15,21 @@ coo3D a b c l m = record { x = a; y = b; z = c; lon = l; lat = m }
 unfoldable pub fromVec3 : Float → Float → Float → Coo3D
 fromVec3 a b c = let p = lonLatOf a b c in coo3D a b c (p .lon) (p .lat)
 
--- a longitude in [0, 2π) and a latitude in [−π/2, π/2]
-unfoldable pub inRange : Float → Float → Bool
-inRange lon lat = le plusZero lon && lt lon twoPi && le (neg halfPi) lat && le lat halfPi
+abbrev pub pointOf : Vect3 → Coo3D
+pointOf v = fromVec3 (v .x) (v .y) (v .z)
 
--- from angles, which stay as they are in that range
+-- a longitude lies in [0, 2π), a latitude in [−π/2, π/2]
+unfoldable pub isLongitude : Float → Bool
+isLongitude lon = le plusZero lon && lt lon twoPi
+
+unfoldable pub isLatitude : Float → Bool
+isLatitude lat = le (neg halfPi) lat && le lat halfPi
+
+-- from angles, which stay as they are in these ranges
 unfoldable pub fromSphCoo : Float → Float → Coo3D
 fromSphCoo lon lat =
     let v = vec3Of lon lat in
-    cond (inRange lon lat) (coo3D (v .x) (v .y) (v .z) lon lat) (fromVec3 (v .x) (v .y) (v .z))
+    cond (isLongitude lon && isLatitude lat) (coo3D (v .x) (v .y) (v .z) lon lat) (fromVec3 (v .x) (v .y) (v .z))
 
 -- a point's vector
 unfoldable pub vectOf : Coo3D → Vect3

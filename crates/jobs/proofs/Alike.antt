@@ -7,9 +7,11 @@ use native.Mathlib.Omega.{arith}
 use mathlib.Core.Path.{_≡_, refl, ap}
 use mathlib.Core.Bool.{Bool, true, false, cond, _||_}
 use mathlib.Core.List.{List, [], _∷_}
-use Rattle.replies.specs.Table.{operandWidth}
-use Rattle.replies.specs.Allowances.{LikeOperands}
-use Rattle.jobs.specs.Files.{Command, Parsed, commands, refused, before, ended, parse, fileOf}
+use Rattle.table.specs.Table.{inTable, operandWidth}
+use Rattle.table.specs.CommandAllowances.{LikeOperands}
+use Rattle.commands.specs.Commands.{Command}
+use Rattle.commands.specs.TwoLists.{command, LikeCommands, none, one}
+use Rattle.jobs.specs.Files.{Parsed, commands, refused, before, ended, parse, fileOf, commandsIn}
 use Rattle.jobs.specs.Alike.{allowancesFrom, isAllowance, Alike, SamePlaces}
 
 -- bytes beside each other, of which the first `skip` are operands, of code 02 or not
@@ -64,21 +66,9 @@ same-operands end n = refl
 same-operands (operand e r) n = rw (e n, same-operands r n)
 same-operands (command-byte r) n = refl
 
--- the same codes, with operands that are the same unless the code is 02
-abbrev pub command : ℕ → List ℕ → Command
-command code b = record { code = code; operands = b }
-
-pub data Pairs : List Command → List Command → Type 0 where
-  none : Pairs [] []
-  one :
-      {code : ℕ} {b d : List ℕ} {cs ds : List Command}
-      → LikeOperands code b d
-      → Pairs cs ds
-      → Pairs (command code b ∷ cs) (command code d ∷ ds)
-
 -- both files accepted, with commands in pairs, or both refused
-pub data Paired : Parsed → Parsed → Type 0 where
-  accepted : {cs ds : List Command} → Pairs cs ds → Paired (commands cs) (commands ds)
+data Paired : Parsed → Parsed → Type 0 where
+  accepted : {cs ds : List Command} → LikeCommands cs ds → Paired (commands cs) (commands ds)
   neither : {number place number₂ place₂ : ℕ} → Paired (refused number place) (refused number₂ place₂)
 
 paired-before : (code : ℕ) {b d : List ℕ} {p q : Parsed}
@@ -107,12 +97,19 @@ paired place (operand e r) = paired (place + 1) r
 paired place (command-byte {x = x} {xs = xs} r) =
     let command = paired-before x (same-operands r) (paired (place + 1) r) in
     rw (← same-length r)
-    (paired-cond (leb x 6)
+    (paired-cond (inTable x)
     (paired-cond (eqb x 0) (paired-ended (place + 1) r) (paired-cond (leb (operandWidth x) (length xs)) command neither))
     neither)
 
-pub paired-files : (job other : List ℕ) → Alike job other → Paired (fileOf job) (fileOf other)
+paired-files : (job other : List ℕ) → Alike job other → Paired (fileOf job) (fileOf other)
 unfolding fileOf
 paired-files job other a =
     rw (← a .same-length)
     (paired-cond (eqb (length job) 0 || ltb 16384 (length job)) neither (paired 0 (beside-files a)))
+
+like-commands : {p q : Parsed} → Paired p q → LikeCommands (commandsIn p) (commandsIn q)
+like-commands (accepted h) = h
+like-commands neither = none
+
+pub alike-commands : (job other : List ℕ) → Alike job other → LikeCommands (commandsIn (fileOf job)) (commandsIn (fileOf other))
+alike-commands job other a = like-commands (paired-files job other a)

@@ -11,12 +11,13 @@ use native.Mathlib.Numerals.{add-one}
 use mathlib.Core.Path.{_≡_, refl, sym, ap, subst, _∙_}
 use mathlib.Core.Bool.{Bool, true, false, cond}
 use mathlib.Core.List.{List, [], _∷_}
-use Rattle.replies.specs.Table.{operandWidth}
+use Rattle.table.specs.Table.{Known, inTable, operandWidth}
 use Rattle.jobs.specs.declared.item.Item.{Item}
 use Rattle.jobs.specs.declared.item.Item.the-variants as item
-use Rattle.jobs.specs.Files.{Command, Parsed, commands, refused, before, ended, parse, over}
+use Rattle.commands.specs.Commands.{Command}
+use Rattle.jobs.specs.Files.{Parsed, commands, refused, before, ended, parse}
 use Rattle.jobs.specs.Passes.{itemOf, itemAt}
-use Rattle.replies.proofs.Cases.{by-test}
+use Rattle.table.proofs.Cases.{by-test}
 
 -- operands are passed over
 pub parse-skip : (place skip : ℕ) (rest : List ℕ) → skip ≤ length rest → parse place skip rest ≡ parse (place + skip) 0 (drop skip rest)
@@ -68,7 +69,7 @@ operands-as job at code h = go (leb (operandWidth code) (length job - (at + 1)))
 code-as : (job : List ℕ) (at code : ℕ) → at < length job → parse at 0 (code ∷ drop (at + 1) job) ≡ parsedAs job at (itemOf code at (length job))
 code-as job at code h =
     rw (length-drop (at + 1) job)
-    (cond-as job at (leb code 6) _ _ (cond-as job at (eqb code 0) _ _ (ended-as job at h) (operands-as job at code h)) refl)
+    (cond-as job at (inTable code) _ _ (cond-as job at (eqb code 0) _ _ (ended-as job at h) (operands-as job at code h)) refl)
 
 pub parsed-at : (job : List ℕ) (at : ℕ) → parsedAt job at ≡ parsedAs job at (itemAt job at)
 unfolding itemAt
@@ -83,7 +84,7 @@ parsed-at job at = go (ltb at (length job)) refl
 
 -- a command that is found there lies in the file
 abbrev pub Good : List ℕ → ℕ → Item → Type 0
-Good job at (item.Command code end) = (1 ≤ code) × (code ≤ 6) × (end ≡ at + 1 + operandWidth code) × (end ≤ length job)
+Good job at (item.Command code end) = Known code × (end ≡ at + 1 + operandWidth code) × (end ≤ length job)
 Good job at item.End = Unit {0}
 Good job at (item.Refused number place) = Unit {0}
 
@@ -93,11 +94,11 @@ good job at =
     let n = length job in
     let code = getD job at 0 in
     by-test (Good job at) (ltb at n)
-    (λ h. by-test (Good job at) (leb code 6)
+    (λ h. by-test (Good job at) (inTable code)
     (λ l. by-test (Good job at) (eqb code 0)
     (λ z. by-test (Good job at) (eqb (at + 1) n) (λ e. tt) (λ e. tt))
     (λ z. by-test (Good job at) (leb (operandWidth code) (n - (at + 1)))
-    (λ w. (omega (arith, eqb-false code 0 z), leb-true code 6 l, refl, omega (arith, ltb-true at n h, leb-true (operandWidth code) (n - (at + 1)) w)))
+    (λ w. ((omega (arith, eqb-false code 0 z), ltb-true code _ l), refl, omega (arith, ltb-true at n h, leb-true (operandWidth code) (n - (at + 1)) w)))
     (λ w. tt)))
     (λ l. tt))
     (λ h. tt)

@@ -2,6 +2,5 @@ pub mod Items
 pub mod Files
 pub mod Passes
 pub mod Alike
-pub mod Last
 pub mod TwoFiles
 pub mod Examples

@@ -7,28 +7,28 @@ use Prim.Native.Nat.{ℕ, _+_, _-_, _≤_, _<_}
 use native.Mathlib.Omega.{arith}
 use mathlib.Core.Path.{_≡_, refl, sym, ap, _∙_}
 use mathlib.Core.List.{List, [], _∷_, _++_, append-assoc}
-use Rattle.replies.specs.Table.{answerWidth}
-use Rattle.replies.specs.Settings.{unset}
-use Rattle.replies.specs.Bytes.{replyOf}
-use Rattle.replies.specs.declared.settings.Settings.{Settings}
-use Rattle.replies.proofs.Lengths.{length-reply}
+use Rattle.table.specs.Table.{answerWidth}
+use Rattle.table.specs.States.{unset}
+use Rattle.table.specs.Turns.{replyOf}
+use Rattle.table.specs.declared.state.State.{State}
+use Rattle.table.proofs.ReplyLengths.{length-reply}
 use Rattle.jobs.specs.declared.file.Checked.the-variants as checked
-use Rattle.jobs.specs.Files.{Command, Parsed, commands, refused, before, fileOf, leaves, replies, over, ran, runParsed}
+use Rattle.commands.specs.Commands.{Command, leaves, repliesFrom}
+use Rattle.jobs.specs.Files.{Parsed, commands, refused, before, fileOf, over, ran, runParsed}
 use Rattle.jobs.specs.Passes.{needed, checkedOf, Fitting, filled}
 use Rattle.words.proofs.Parts.{take-mid, drop-mid}
-use Rattle.jobs.proofs.Files.{Known, AllKnown, KnownIn, file-known}
 
 -- the first pass over one command
 pub checked-before : (total : ℕ) (c : Command) (p : Parsed) → checkedOf total (before c p) ≡ checkedOf (total + (2 + answerWidth (c .code))) p
 checked-before total c (commands cs) = ap checked.Accepted (omega arith)
 checked-before total c (refused number place) = refl
 
-pub length-replies : (s : Settings) (cs : List Command) → AllKnown cs → length (replies s cs) ≡ needed cs
-length-replies s [] k = refl
-length-replies s (c ∷ cs) k =
-    length-append (replyOf s (c .code) (c .operands)) (replies (leaves s c) cs)
-    ∙ ap (λ (n : ℕ). n + length (replies (leaves s c) cs)) (length-reply s (c .code) (c .operands) (k .0 .0) (k .0 .1))
-    ∙ ap (λ (n : ℕ). 2 + answerWidth (c .code) + n) (length-replies (leaves s c) cs (k .1))
+pub length-replies : (s : State) (cs : List Command) → length (repliesFrom s cs) ≡ needed cs
+length-replies s [] = refl
+length-replies s (c ∷ cs) =
+    length-append (replyOf s (c .code) (c .operands)) (repliesFrom (leaves s c) cs)
+    ∙ ap (λ (n : ℕ). n + length (repliesFrom (leaves s c) cs)) (length-reply s (c .code) (c .operands))
+    ∙ ap (λ (n : ℕ). 2 + answerWidth (c .code) + n) (length-replies (leaves s c) cs)
 
 -- the second pass over one command
 pub fit-here : (c : Command) (p : Parsed) (n : ℕ) → Fitting (before c p) n → 2 + answerWidth (c .code) ≤ n
@@ -42,21 +42,21 @@ fit-next c (refused number place) n m e h = h
 over-append : (a b old : List ℕ) → over (a ++ b) old ≡ a ++ over b (drop (length a) old)
 over-append a b old = rw (append-assoc, length-append, drop-drop) refl
 
-filled-before : (s : Settings) (c : Command) (p : Parsed) (n : ℕ) (old : List ℕ) → Known c → Fitting (before c p) n →
+filled-before : (s : State) (c : Command) (p : Parsed) (n : ℕ) (old : List ℕ) → Fitting (before c p) n →
     filled s (before c p) old ≡ replyOf s (c .code) (c .operands) ++ filled (leaves s c) p (drop (2 + answerWidth (c .code)) old)
-filled-before s c (commands cs) n old k h =
-    over-append (replyOf s (c .code) (c .operands)) (replies (leaves s c) cs) old
-    ∙ ap (λ (m : ℕ). replyOf s (c .code) (c .operands) ++ over (replies (leaves s c) cs) (drop m old)) (length-reply s (c .code) (c .operands) (k .0) (k .1))
-filled-before s c (refused number place) n old k h = absurd h
+filled-before s c (commands cs) n old h =
+    over-append (replyOf s (c .code) (c .operands)) (repliesFrom (leaves s c) cs) old
+    ∙ ap (λ (m : ℕ). replyOf s (c .code) (c .operands) ++ over (repliesFrom (leaves s c) cs) (drop m old)) (length-reply s (c .code) (c .operands))
+filled-before s c (refused number place) n old h = absurd h
 
 -- one reply written: the buffer up to its end, and what is still to be done past it
-pub pass : (s : Settings) (c : Command) (p : Parsed) (n : ℕ) (reply ys : List ℕ) (out k j : ℕ) →
-    Known c → Fitting (before c p) n → out + k ≤ length reply → k ≡ 2 + answerWidth (c .code) → j ≡ k → ys ≡ replyOf s (c .code) (c .operands) →
+pub pass : (s : State) (c : Command) (p : Parsed) (n : ℕ) (reply ys : List ℕ) (out k j : ℕ) →
+    Fitting (before c p) n → out + k ≤ length reply → k ≡ 2 + answerWidth (c .code) → j ≡ k → ys ≡ replyOf s (c .code) (c .operands) →
     take out reply ++ filled s (before c p) (drop out reply)
     ≡ take (out + k) (putMid out j reply ys) ++ filled (leaves s c) p (drop (out + k) (putMid out j reply ys))
-pass s c p n reply ys out k j g f h e q r =
-    let l : length ys ≡ k = ap length r ∙ length-reply s (c .code) (c .operands) (g .0) (g .1) ∙ sym e in
-    ap (λ (o : List ℕ). take out reply ++ o) (filled-before s c p n (drop out reply) g f)
+pass s c p n reply ys out k j f h e q r =
+    let l : length ys ≡ k = ap length r ∙ length-reply s (c .code) (c .operands) ∙ sym e in
+    ap (λ (o : List ℕ). take out reply ++ o) (filled-before s c p n (drop out reply) f)
     ∙ rw (← r, ← e, q, take-mid reply ys out k h l, drop-mid reply ys out k h l) (sym (append-assoc (take out reply) ys (filled (leaves s c) p (drop k (drop out reply)))))
 
 -- a whole file by what the first pass answered
@@ -72,28 +72,28 @@ module _ (total size : ℕ) (old : List ℕ) where
   accepted-fits (commands cs) e h = let q : 0 + needed cs ≡ total = cc in omega arith
   accepted-fits (refused a b) e h = let z : _≡_ {A = ℕ} 0 1 = cc in absurd (omega arith)
 
-  accepted-parsed : (p : Parsed) → KnownIn p → checkedOf 0 p ≡ checked.Accepted total → total ≤ length old → runParsed p size old ≡ ran 0 size total (filled unset p old)
-  accepted-parsed (commands cs) k e h =
+  accepted-parsed : (p : Parsed) → checkedOf 0 p ≡ checked.Accepted total → total ≤ length old → runParsed p size old ≡ ran 0 size total (filled unset p old)
+  accepted-parsed (commands cs) e h =
       let q : 0 + needed cs ≡ total = cc in
-      let r : length (replies unset cs) ≡ total = length-replies unset cs k ∙ omega arith in
+      let r : length (repliesFrom unset cs) ≡ total = length-replies unset cs ∙ omega arith in
       rw (r, le-leb total (length old) h) refl
-  accepted-parsed (refused a b) k e h = let z : _≡_ {A = ℕ} 0 1 = cc in absurd (omega arith)
+  accepted-parsed (refused a b) e h = let z : _≡_ {A = ℕ} 0 1 = cc in absurd (omega arith)
 
-  short-parsed : (p : Parsed) → KnownIn p → checkedOf 0 p ≡ checked.Accepted total → length old < total → runParsed p size old ≡ ran 5 total 0 old
-  short-parsed (commands cs) k e h =
+  short-parsed : (p : Parsed) → checkedOf 0 p ≡ checked.Accepted total → length old < total → runParsed p size old ≡ ran 5 total 0 old
+  short-parsed (commands cs) e h =
       let q : 0 + needed cs ≡ total = cc in
-      let r : length (replies unset cs) ≡ total = length-replies unset cs k ∙ omega arith in
+      let r : length (repliesFrom unset cs) ≡ total = length-replies unset cs ∙ omega arith in
       rw (r, lt-leb total (length old) h) refl
-  short-parsed (refused a b) k e h = let z : _≡_ {A = ℕ} 0 1 = cc in absurd (omega arith)
+  short-parsed (refused a b) e h = let z : _≡_ {A = ℕ} 0 1 = cc in absurd (omega arith)
 
   pub accepted-run : (job : List ℕ)
       → checkedOf 0 (fileOf job) ≡ checked.Accepted total
       → total ≤ length old
       → runParsed (fileOf job) size old ≡ ran 0 size total (filled unset (fileOf job) old)
-  accepted-run job = accepted-parsed (fileOf job) (file-known job)
+  accepted-run job = accepted-parsed (fileOf job)
 
   pub short-run : (job : List ℕ)
       → checkedOf 0 (fileOf job) ≡ checked.Accepted total
       → length old < total
       → runParsed (fileOf job) size old ≡ ran 5 total 0 old
-  short-run job = short-parsed (fileOf job) (file-known job)
+  short-run job = short-parsed (fileOf job)

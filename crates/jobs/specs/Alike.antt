@@ -5,7 +5,7 @@ use Prim.Native.Nat.{ℕ, zero, suc}
 use mathlib.Core.Path.{_≡_}
 use mathlib.Core.Bool.{Bool, false}
 use mathlib.Core.List.{List, [], _∷_}
-use Rattle.replies.specs.Table.{operandWidth}
+use Rattle.table.specs.Table.{operandWidth}
 
 -- for each byte, whether it is an operand of code 02; the first `skip` bytes are operands of the command before, whose code is 02 where `two` holds
 unfoldable pub allowancesFrom : Bool → ℕ → List ℕ → List Bool

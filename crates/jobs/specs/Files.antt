@@ -4,16 +4,9 @@ use lib.ListN.{length, take, drop}
 use Prim.Native.Nat.{ℕ, zero, suc, _+_}
 use mathlib.Core.Bool.{cond, _||_}
 use mathlib.Core.List.{List, [], _∷_, _++_}
-use Rattle.replies.specs.Table.{inTable, operandWidth}
-use Rattle.replies.specs.Operands.{operandsOf}
-use Rattle.replies.specs.Settings.{unset}
-use Rattle.replies.specs.Refusals.{after}
-use Rattle.replies.specs.Bytes.{replyOf}
-use Rattle.replies.specs.declared.settings.Settings.{Settings}
-
-pub record Command : Type 0 where
-  pub code : ℕ
-  pub operands : List ℕ
+use Rattle.table.specs.States.{unset}
+use Rattle.table.specs.Table.{inTable, operandWidth}
+use Rattle.commands.specs.Commands.{Command, repliesFrom}
 
 -- a job file: its commands before code 00, or the number and the place of a refusal
 pub data Parsed : Type 0 where
@@ -46,22 +39,15 @@ parse place zero (code ∷ rest) =
 unfoldable pub fileOf : List ℕ → Parsed
 fileOf job = cond (eqb (length job) 0 || ltb 16384 (length job)) (refused 1 0) (parse 0 0 job)
 
--- the replies to commands, in their order: each gets the settings that the one before left
-abbrev pub leaves : Settings → Command → Settings
-leaves s c = after s (operandsOf (c .code) (c .operands))
-
-abbrev pub replies : Settings → List Command → List ℕ
-replies s [] = []
-replies s (c ∷ cs) = replyOf s (c .code) (c .operands) ++ replies (leaves s c) cs
+-- the commands of an accepted file; a refused one has none
+abbrev pub commandsIn : Parsed → List Command
+commandsIn (commands cs) = cs
+commandsIn (refused number place) = []
 
 -- "The reply file of an accepted job file is the bytes written for it: the replies to its commands, in their order, and nothing else of the
 -- buffer" ("Jobs and replies")
-abbrev pub repliesTo : Parsed → List ℕ
-repliesTo (commands cs) = replies unset cs
-repliesTo (refused number place) = []
-
 unfoldable pub replyFile : List ℕ → List ℕ
-replyFile job = repliesTo (fileOf job)
+replyFile job = repliesFrom unset (commandsIn (fileOf job))
 
 -- what a run answers, and the reply buffer after it
 pub record Ran : Type 0 where
@@ -88,7 +74,7 @@ answered file size old =
 
 abbrev pub runParsed : Parsed → ℕ → List ℕ → Ran
 runParsed (refused number place) size old = refuse number place old
-runParsed (commands cs) size old = answered (replies unset cs) size old
+runParsed (commands cs) size old = answered (repliesFrom unset cs) size old
 
 -- a whole job file, and the reply buffer before
 unfoldable pub runFile : List ℕ → List ℕ → Ran

@@ -4,14 +4,15 @@ use lib.ListN.{length, getD}
 use Prim.Native.Nat.{ℕ, _+_, _-_, _≤_}
 use mathlib.Core.Bool.{cond}
 use mathlib.Core.List.{List, [], _∷_}
-use Rattle.replies.specs.Table.{inTable, operandWidth, answerWidth}
-use Rattle.replies.specs.declared.settings.Settings.{Settings}
+use Rattle.table.specs.Table.{inTable, operandWidth, answerWidth}
+use Rattle.table.specs.declared.state.State.{State}
 use Rattle.jobs.specs.declared.item.Item.{Item}
 use Rattle.jobs.specs.declared.item.Item.the-variants as item
 use Rattle.jobs.specs.declared.file.Checked.{Checked}
 use Rattle.jobs.specs.declared.file.Checked.the-variants as checked
 use Rattle.jobs.specs.declared.file.Outcome.{Outcome}
-use Rattle.jobs.specs.Files.{Command, Parsed, commands, refused, replies, over, Ran, ran}
+use Rattle.commands.specs.Commands.{Command, repliesFrom}
+use Rattle.jobs.specs.Files.{Parsed, commands, refused, over, Ran, ran}
 
 -- a code at a place of a file of n bytes
 abbrev pub itemOf : ℕ → ℕ → ℕ → Item
@@ -41,8 +42,8 @@ Fitting (commands cs) n = needed cs ≤ n
 Fitting (refused number place) n = ⊥
 
 -- the buffer after the second pass
-abbrev pub filled : Settings → Parsed → List ℕ → List ℕ
-filled s (commands cs) old = over (replies s cs) old
+abbrev pub filled : State → Parsed → List ℕ → List ℕ
+filled s (commands cs) old = over (repliesFrom s cs) old
 filled s (refused number place) old = old
 
 abbrev pub ranOf : Outcome → List ℕ → Ran

@@ -2,12 +2,12 @@
 
 use super::item;
 use super::item::Item;
-use replies::operands;
-use replies::settings::Settings;
-use replies::table;
+use commands::turn;
+use table::state::State;
+use table::width;
 ghost use mathlib.Core.Path.{_≡_};
 ghost use lib.ListN.{length};
-ghost use Rattle.replies.specs.Settings.{unset};
+ghost use Rattle.table.specs.States.{unset};
 ghost use Rattle.jobs.specs.Files.{fileOf, runFile};
 ghost use Rattle.jobs.specs.Passes.{checkedOf, Fitting, filled, ranOf};
 
@@ -29,7 +29,7 @@ fn check(job: &[u8]) -> Checked
     loop {
         match item::item_at(job, at) {
             Item::Command(code, end) => {
-                total += table::reply_width(code);
+                total += width::reply_width(code);
                 at = end;
             }
             Item::End => {
@@ -49,15 +49,17 @@ fn run(job: &[u8], reply: &mut [u8])
 {
     let mut at = 0;
     let mut out = 0;
-    let mut settings = Settings::unset();
+    let mut state = State::unset();
     loop {
         match item::item_at(job, at) {
             Item::Command(code, end) => {
                 let start = at + 1;
-                let to = out + table::reply_width(code);
-                let o = operands::operands_of(code, &job[start..end]);
-                o.reply(settings).put(code, &mut reply[out..to]);
-                settings = settings.after(o);
+                let to = out + width::reply_width(code);
+                let t = turn::turn(state, code, &job[start..end]);
+                let r = t.reply;
+                r.put(code, &mut reply[out..to]);
+                let s = t.state;
+                state = s;
                 at = end;
                 out = to;
             }

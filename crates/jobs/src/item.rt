@@ -1,6 +1,6 @@
 // What stands at a place of a job file.
 
-use replies::table;
+use table::width;
 ghost use mathlib.Core.Path.{_≡_};
 ghost use Rattle.jobs.specs.Passes.{itemAt};
 
@@ -18,7 +18,7 @@ pub fn item_at(job: &[u8], at: usize) -> Item
         return Item::Refused(3, at);
     }
     let code = job[at];
-    if table::LAST < code {
+    if width::CODES <= code {
         return Item::Refused(2, at);
     }
     let start = at + 1;
@@ -28,9 +28,9 @@ pub fn item_at(job: &[u8], at: usize) -> Item
         }
         return Item::Refused(4, start);
     }
-    let width = table::operand_width(code);
-    if width <= job.len() - start {
-        return Item::Command(code, start + width);
+    let operands = width::operand_width(code);
+    if operands <= job.len() - start {
+        return Item::Command(code, start + operands);
     }
     Item::Refused(3, at)
 }

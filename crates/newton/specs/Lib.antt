@@ -1,4 +1,4 @@
 pub mod Slopes
 pub mod Regions
 pub mod Walks
-pub mod Allowances
+pub mod WalkAllowances

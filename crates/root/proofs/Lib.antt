@@ -6,4 +6,4 @@ pub mod Bits
 pub mod Middle
 pub mod Nearest
 pub mod Rounded
-pub mod Examples
+pub mod RootExamples

@@ -1,4 +1,4 @@
 pub mod Root
 pub mod Nearest
 pub mod Digits
-pub mod Examples
+pub mod RootExamples

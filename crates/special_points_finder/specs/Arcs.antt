@@ -1,21 +1,18 @@
 -- Document 01, "Jobs and replies": the five slots of an arc: south cap first and second, equator, north cap first and second. Definitions only.
 use lib.Ieee.{Float}
 use Prim.Native.Nat.{ℕ}
-use mathlib.Core.List.{List, [], _∷_}
-use Rattle.newton.specs.declared.walk.Start.{Start}
-use Rattle.special_points_finder.specs.Plans.{capPlan, slotAt, capSlotsAt, walksIn}
+use Rattle.plans.specs.Plans.{capPlan, slotAt, capSlotsAt}
 use Rattle.special_points_finder.specs.Equator.{arcPlanInEqr}
-use Rattle.special_points_finder.specs.Caps.{arcPlanInPc}
-use Rattle.special_points_finder.specs.declared.answer.Slot.{Slot}
-use Rattle.special_points_finder.specs.declared.plan.Plan.{Plan}
-use Rattle.special_points_finder.specs.declared.plan.Plan.the-variants.{NoPiece}
-use Rattle.special_points_finder.specs.declared.plan.CapPlan.{CapPlan}
-use Rattle.special_points_finder.specs.declared.split.Piece.{Piece}
-use Rattle.special_points_finder.specs.declared.split.Piece.the-variants.{Nothing, Between}
-use Rattle.special_points_finder.specs.declared.split.Regions.{Regions}
-use Rattle.special_points_finder.specs.declared.split.Split.{Split}
-use Rattle.special_points_finder.specs.declared.split.Split.the-variants.{Into, Failed}
-use Rattle.special_points_finder.specs.declared.arc.Slots.{Slots}
+use Rattle.caps.specs.Caps.{arcPlanInPc}
+use Rattle.plans.specs.declared.plan.Plan.{Plan}
+use Rattle.plans.specs.declared.plan.Plan.the-variants.{NoPiece}
+use Rattle.plans.specs.declared.plan.CapPlan.{CapPlan}
+use Rattle.splits.specs.declared.split.Piece.{Piece}
+use Rattle.splits.specs.declared.split.Piece.the-variants.{Nothing, Between}
+use Rattle.splits.specs.declared.split.Regions.{Regions}
+use Rattle.splits.specs.declared.split.Split.{Split}
+use Rattle.splits.specs.declared.split.Split.the-variants.{Into, Failed}
+use Rattle.answers.specs.declared.answer.Slots.{Slots}
 use Rattle.special_points_finder.specs.declared.arc.ArcAnswer.{ArcAnswer}
 use Rattle.special_points_finder.specs.declared.arc.ArcAnswer.the-variants as arc
 
@@ -50,18 +47,3 @@ slotsAt n p =
 unfoldable pub arcAt : ℕ → Split → Float → ArcAnswer
 arcAt n (Into r) precision = arc.Slots (slotsAt n (arcPlan r precision))
 arcAt n Failed precision = arc.Unsplit
-
--- the plans in the order of the slots, none where the arc can't be split, and the walks that begin
-unfoldable pub arcPlans : Split → Float → List Plan
-arcPlans (Into r) precision =
-    let p = arcPlan r precision in
-    p .south .first ∷ p .south .second ∷ p .equator ∷ p .north .first ∷ p .north .second ∷ []
-arcPlans Failed precision = []
-
-unfoldable pub arcWalks : Split → Float → List Start
-arcWalks s precision = walksIn (arcPlans s precision)
-
--- the slots in their order
-unfoldable pub slotsIn : ArcAnswer → List Slot
-slotsIn (arc.Slots s) = s .south .first ∷ s .south .second ∷ s .equator ∷ s .north .first ∷ s .north .second ∷ []
-slotsIn arc.Unsplit = []

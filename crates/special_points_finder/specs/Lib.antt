@@ -1,10 +1,3 @@
-pub mod Answers
-pub mod Endings
-pub mod Plans
-pub mod Cones
 pub mod Equator
-pub mod SameQuarter
-pub mod Caps
-pub mod Splits
+pub mod Cones
 pub mod Arcs
-pub mod Allowances

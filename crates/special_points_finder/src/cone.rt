@@ -1,16 +1,16 @@
 // The special points of a cone's rim: a height in the equatorial region or in a cap.
 
-use super::answer::Slot;
-use super::ending::Ending;
-use super::plan::Plan;
+use answers::answer::Slot;
 use newton::region;
 use newton::slope::Cone;
 use newton::slope::Slope;
 use newton::walk;
 use newton::walk::Start;
+use plans::ending::Ending;
+use plans::plan::Plan;
 ghost use mathlib.Core.Path.{_≡_};
 ghost use Rattle.special_points_finder.specs.Cones.{coneOfRadius, conePlanInEqr, conePlanInPc};
-ghost use Rattle.special_points_finder.specs.Plans.{slotAt};
+ghost use Rattle.plans.specs.Plans.{slotAt};
 
 // The cone of the given Euclidean radius.
 fn cone_of_radius(z0: f64, radius: f64) -> Cone

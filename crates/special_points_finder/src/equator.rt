@@ -1,9 +1,7 @@
 // The special point of a piece of an arc in the equatorial region.
 
-use super::answer::Slot;
-use super::ending::Ending;
-use super::plan::Plan;
 use angles::float;
+use answers::answer::Slot;
 use coo3d::point::Coo3D;
 use crossing::great_arc::GreatArc;
 use newton::region;
@@ -12,9 +10,11 @@ use newton::slope::Cone;
 use newton::slope::Slope;
 use newton::walk;
 use newton::walk::Start;
+use plans::ending::Ending;
+use plans::plan::Plan;
 ghost use mathlib.Core.Path.{_≡_};
 ghost use Rattle.special_points_finder.specs.Equator.{slopeInEqr, arcPlanInEqr};
-ghost use Rattle.special_points_finder.specs.Plans.{slotAt};
+ghost use Rattle.plans.specs.Plans.{slotAt};
 
 // The slope of the great circle whose normal has the height z0.
 fn slope_in_eqr(z0: f64) -> Slope

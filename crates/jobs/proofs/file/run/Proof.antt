@@ -8,17 +8,15 @@ use native.Mathlib.Nat.{sub-zero}
 use native.Mathlib.Omega.{arith}
 use mathlib.Core.Path.{_≡_, refl, sym, ap, subst, _∙_}
 use mathlib.Core.List.{List, _++_}
-use Rattle.replies.specs.Table.{operandWidth, answerWidth}
-use Rattle.replies.specs.Operands.{operandsOf}
-use Rattle.replies.specs.Settings.{unset}
-use Rattle.replies.specs.Refusals.{after}
-use Rattle.replies.specs.Replies.{replyTo}
-use Rattle.replies.specs.Bytes.{Fits, replyBytes, replyOf}
-use Rattle.replies.specs.declared.settings.Settings.{Settings}
-use Rattle.replies.specs.declared.reply.Reply.{Reply}
+use Rattle.table.specs.Table.{Known, rowOf, operandWidth, answerWidth}
+use Rattle.table.specs.States.{unset}
+use Rattle.table.specs.Turns.{turnOf, Fits, replyBytes, replyOf, after}
+use Rattle.table.specs.declared.state.State.{State}
+use Rattle.table.specs.declared.reply.Turn.{Turn}
 use Rattle.words.proofs.Parts.{length-mid}
-use Rattle.replies.proofs.Lengths.{reply-fits, length-reply}
-use Rattle.jobs.specs.Files.{Parsed, before, fileOf, leaves}
+use Rattle.table.proofs.ReplyLengths.{reply-fits, length-reply}
+use Rattle.commands.specs.Commands.{leaves}
+use Rattle.jobs.specs.Files.{Parsed, before, fileOf}
 use Rattle.jobs.specs.Passes.{Fitting, filled}
 use Rattle.jobs.proofs.Items.{parsedAt, commandAt, at-item, good-item}
 use Rattle.jobs.proofs.Files.{fitting-parsed}
@@ -27,20 +25,19 @@ use Rattle.jobs.proofs.file.run.Statement.{statement}
 use Rattle.jobs.proofs.file.run.Tie as tie
 
 abbrev Inv-loop : tie.InvT-loop
-Inv-loop job reply₀ at₀ out₀ settings₀ reply at out settings =
+Inv-loop job reply₀ at₀ out₀ state₀ reply at out state =
     (at ≤ length job)
     × (out ≤ length reply₀)
     × (length reply ≡ length reply₀)
     × Fitting (parsedAt job at) (length reply₀ - out)
-    × (filled unset (fileOf job) reply₀ ≡ take out reply ++ filled settings (parsedAt job at) (drop out reply))
+    × (filled unset (fileOf job) reply₀ ≡ take out reply ++ filled state (parsedAt job at) (drop out reply))
 
 abbrev μ-loop : tie.MeasureT-loop
-μ-loop job reply₀ at₀ out₀ settings₀ reply at out settings = length job - at
+μ-loop job reply₀ at₀ out₀ state₀ reply at out state = length job - at
 
 -- what was found: a command of the table that lies in the file, and whose reply fits
 record Here (job reply : List ℕ) (at out code end : ℕ) : Type 0 where
-  low : 1 ≤ code
-  high : code ≤ 6
+  known : Known code
   wide : end ≡ at + 1 + operandWidth code
   inside : end ≤ length job
   room : 2 + answerWidth code ≤ length reply - out
@@ -61,10 +58,9 @@ here c =
     let g = good-item job (l .at) _ _ found (v .1) in
     let f = subst (λ (p : Parsed). Fitting p n) (at-item job (l .at) _ _ found (v .1)) (l .inv .3) in
     record {
-      low = g .0;
-      high = g .1;
-      wide = g .2;
-      inside = g .3;
+      known = g .0;
+      wide = g .1;
+      inside = g .2;
       room = fit-here (commandAt job (l .at) (v .0 .0)) (parsedAt job (v .0 .1 .0)) n f;
       fitting = f;
     }
@@ -95,27 +91,23 @@ add-start : tie.Need-add-start Inv-loop μ-loop
 add-start c = let h = here c in omega (arith, h .wide, h .inside)
 
 reply-width-requires : tie.Need-reply-width-requires Inv-loop μ-loop
-reply-width-requires c κs = let h = here c in (h .low, h .high)
+reply-width-requires c κs = let h = here c in h .known
 
 add-to : tie.Need-add-to Inv-loop μ-loop
 add-to c = let h = here (c .before) in omega (arith, h .room)
 
-sub-operands-of : tie.Need-sub-operands-of Inv-loop μ-loop
-sub-operands-of c = let h = here (c .before) in omega (arith, h .wide)
+sub-turn : tie.Need-sub-turn Inv-loop μ-loop
+sub-turn c = let h = here (c .before) in omega (arith, h .wide)
 
-part-operands-of-start : tie.Need-part-operands-of-start Inv-loop μ-loop
-part-operands-of-start c = let h = here (c .before) in omega (arith, h .wide)
+part-turn-start : tie.Need-part-turn-start Inv-loop μ-loop
+part-turn-start c = let h = here (c .before) in omega (arith, h .wide)
 
-part-operands-of-end : tie.Need-part-operands-of-end Inv-loop μ-loop
-part-operands-of-end c = let h = here (c .before) in h .inside
+part-turn-end : tie.Need-part-turn-end Inv-loop μ-loop
+part-turn-end c = let h = here (c .before) in h .inside
 
-operands-of-requires : tie.Need-operands-of-requires Inv-loop μ-loop
-operands-of-requires c κs =
-    let h = here (c .before .before) in
-    (h .low, h .high, simp (length-take, length-drop) (omega (arith, h .wide, h .inside)))
-
-reply-requires : tie.Need-reply-requires Inv-loop μ-loop
-reply-requires c κs = tt
+turn-requires : tie.Need-turn-requires Inv-loop μ-loop
+turn-requires c κs =
+    let h = here (c .before .before) in (h .known, simp (length-take, length-drop) (omega (arith, h .wide, h .inside)))
 
 sub-put : tie.Need-sub-put Inv-loop μ-loop
 sub-put c = omega arith
@@ -124,48 +116,47 @@ part-put-start : tie.Need-part-put-start Inv-loop μ-loop
 part-put-start c = omega arith
 
 part-put-end : tie.Need-part-put-end Inv-loop μ-loop
-part-put-end c = let h = here (c .before .before .before .before) in omega (arith, h .room)
+part-put-end c = let h = here (c .before .before .before) in omega (arith, h .room)
 
 put-requires : tie.Need-put-requires Inv-loop μ-loop
 put-requires c κs =
-    let k = c .before .before .before .before .before in
+    let k = c .before .before .before .before in
     let h = here k in
     let code = k .before .code .given .0 .0 in
-    let s = k .before .before .before .before .loop .settings in
-    let r = c .before .before .before .before .reply-width in
-    let is : c .before .reply .result ≡ replyTo s (operandsOf code _) = c .before .reply .ensures ∙ ap (replyTo s) (c .before .before .operands-of .ensures) in
-    (simp (length-take, length-drop) (omega (arith, h .room, r .ensures .0)), subst (λ (x : Reply). Fits x (answerWidth code)) (sym is) (reply-fits s code _ (h .low) (h .high)))
-
-after-requires : tie.Need-after-requires Inv-loop μ-loop
-after-requires c κs = tt
+    let s = k .before .before .before .before .loop .state in
+    let r = c .before .before .before .reply-width in (
+      simp (length-take, length-drop) (omega (arith, h .room, r .ensures .0)),
+      subst (λ (t : Turn). Fits (t .reply) (answerWidth code)) (sym (c .before .turn .ensures)) (reply-fits s code _),
+    )
 
 loop-less : tie.Need-loop-less Inv-loop μ-loop
-loop-less c = let h = here (c .before .before .before .before .before .before .before .before .before) in omega (arith, h .wide, h .inside)
+loop-less c = let h = here (c .before .before .before .before .before .before .before .before) in omega (arith, h .wide, h .inside)
 
 loop-again : tie.Need-loop-again Inv-loop μ-loop
-unfolding replyOf
+unfolding replyOf after
 loop-again c =
-    let k = c .before .before .before .before .before .before .before .before .before in
+    let k = c .before .before .before .before .before .before .before .before in
     let h = here k in
     let start = k .before .before .before .before .before .before .before .before in
     let job = start .args .job .now in
     let l = k .before .before .before .before .loop in
-    let s = l .settings in
+    let s = l .state in
     let code = k .before .code .given .0 .0 in
     let end = k .before .code .given .0 .1 .0 in
-    let r = c .before .before .before .before .before .before .before .before .reply-width in
+    let r = c .before .before .before .before .before .before .before .reply-width in
+    let turn = c .before .before .before .before .before .turn in
     let command = commandAt job (l .at) code in
     let next = parsedAt job end in
     let n = length (start .args .reply .now) - l .out in
     let w : end - (l .at + 1) ≡ operandWidth code = omega (arith, h .wide) in
     let j : l .out + r .result - l .out ≡ r .result = omega arith in
-    let o : c .before .before .before .before .before .before .operands-of .result ≡ operandsOf code (command .operands) =
-    c .before .before .before .before .before .before .operands-of .ensures ∙ ap (λ (m : ℕ). operandsOf code (take m (drop (l .at + 1) job))) w in
+    let o : turn .result ≡ turnOf (rowOf code) s (command .operands) =
+    turn .ensures ∙ ap (λ (m : ℕ). turnOf (rowOf code) s (take m (drop (l .at + 1) job))) w in
     let ys = c .before .before .before .put .last .1 .1 .0 in
     let q : ys ≡ replyOf s code (command .operands) =
-    c .before .before .before .put .ensures ∙ ap (replyBytes code) (c .before .before .before .before .before .reply .ensures ∙ ap (replyTo s) o) in
-    let t : c .after .result ≡ leaves s command = c .after .ensures ∙ ap (after s) o in
-    let m : length ys ≡ r .result = ap length q ∙ length-reply s code (command .operands) (h .low) (h .high) ∙ sym (r .ensures .0) in (
+    c .before .before .before .put .ensures ∙ ap (λ (t : Turn). replyBytes code (t .reply)) o in
+    let t : turn .result .state ≡ leaves s command = ap (λ (t : Turn). t .state) o in
+    let m : length ys ≡ r .result = ap length q ∙ length-reply s code (command .operands) ∙ sym (r .ensures .0) in (
       h .inside,
       omega (arith, h .room, r .ensures .0),
       length-mid (l .out) (l .out + r .result - l .out) (l .reply) ys (omega (arith, h .room, r .ensures .0)) (m ∙ sym j) ∙ l .inv .2,
@@ -173,8 +164,8 @@ loop-again c =
       l .inv .4
           ∙ ap (λ (p : Parsed). take (l .out) (l .reply) ++ filled s p (drop (l .out) (l .reply)))
           (at-item job (l .at) _ _ (k .before .before .before .item-at .ensures) (k .before .code .given .1))
-          ∙ pass s command next n (l .reply) ys (l .out) (r .result) (l .out + r .result - l .out) (h .low, h .high) (h .fitting) (omega (arith, h .room, r .ensures .0)) (r .ensures .0) j q
-          ∙ ap (λ (x : Settings). take (l .out + r .result) (putMid (l .out) (l .out + r .result - l .out) (l .reply) ys)
+          ∙ pass s command next n (l .reply) ys (l .out) (r .result) (l .out + r .result - l .out) (h .fitting) (omega (arith, h .room, r .ensures .0)) (r .ensures .0) j q
+          ∙ ap (λ (x : State). take (l .out + r .result) (putMid (l .out) (l .out + r .result - l .out) (l .reply) ys)
           ++ filled x next (drop (l .out + r .result) (putMid (l .out) (l .out + r .result - l .out) (l .reply) ys))) (sym t),
     )
 
@@ -187,7 +178,7 @@ same-length c = c .before .before .before .loop .inv .2
 returns : tie.Need-returns Inv-loop μ-loop
 returns c =
     let l = c .before .before .before .loop in
-    sym (l .inv .4 ∙ ap (λ (p : Parsed). take (l .out) (l .reply) ++ filled (l .settings) p (drop (l .out) (l .reply)))
+    sym (l .inv .4 ∙ ap (λ (p : Parsed). take (l .out) (l .reply) ++ filled (l .state) p (drop (l .out) (l .reply)))
     (at-item _ (l .at) _ _ (c .before .before .item-at .ensures) (c .enum-told .given .1)) ∙ take-append-drop (l .out) (l .reply))
 
 enum-told-2 : tie.Need-enum-told-2 Inv-loop μ-loop
@@ -199,7 +190,7 @@ same-length-2 c = c .before .before .before .loop .inv .2
 returns-2 : tie.Need-returns-2 Inv-loop μ-loop
 returns-2 c =
     let l = c .before .before .before .loop in
-    sym (l .inv .4 ∙ ap (λ (p : Parsed). take (l .out) (l .reply) ++ filled (l .settings) p (drop (l .out) (l .reply)))
+    sym (l .inv .4 ∙ ap (λ (p : Parsed). take (l .out) (l .reply) ++ filled (l .state) p (drop (l .out) (l .reply)))
     (at-item _ (l .at) _ _ (c .before .before .item-at .ensures) (c .enum-told2 .given .1)) ∙ take-append-drop (l .out) (l .reply))
 
 pub run-spec : {M : Type 1} → statement M
@@ -215,16 +206,14 @@ run-spec =
     add-start
     reply-width-requires
     add-to
-    sub-operands-of
-    part-operands-of-start
-    part-operands-of-end
-    operands-of-requires
-    reply-requires
+    sub-turn
+    part-turn-start
+    part-turn-end
+    turn-requires
     sub-put
     part-put-start
     part-put-end
     put-requires
-    after-requires
     loop-less
     loop-again
     enum-told

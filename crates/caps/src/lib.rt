@@ -1,0 +1,4 @@
+// The pieces of an arc in a cap.
+
+pub mod cap;
+mod same_quarter;

@@ -1,0 +1,3 @@
+mod EndsTurns
+pub mod Last
+pub mod TwoLists

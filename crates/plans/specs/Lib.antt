@@ -1,0 +1,3 @@
+pub mod Endings
+pub mod Plans
+pub mod PlanAllowances

@@ -1,0 +1,5 @@
+pub mod Cases
+mod Widths
+mod Laws
+pub mod ReplyLengths
+pub mod CommandAllowances

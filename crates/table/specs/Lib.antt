@@ -1,0 +1,5 @@
+pub mod States
+pub mod Rows
+pub mod Table
+pub mod Turns
+pub mod CommandAllowances
