@@ -24,7 +24,7 @@ fn put_slot(slot: Slot, out: &mut [u8])
 {
     let answer = slot.answer;
     let steps = slot.steps;
-    // A slot is never `Height`; the other cases have the bytes of `numbersOf` as well.
+    // A slot of an arc is never `Height`, which has the bytes of `numbersOf` all the same.
     match answer {
         Answer::NoPiece => put_walked(out, 0, steps, 0.0, 0.0),
         Answer::NoWalk => put_walked(out, 1, steps, 0.0, 0.0),

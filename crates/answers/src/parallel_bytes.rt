@@ -20,7 +20,7 @@ pub fn put_crossing(answer: Answer, out: &mut [u8])
     requires { ⌜ length (now out) ≡ 17 ⌝ }
     ensures { λ _. ⌜ now (out .exit) ≡ crossingBytes answer ⌝ }
 {
-    // A parallel is `Found`, `NotBetween` or `NoRoot`; the other cases have the bytes of `numbersOf` as well.
+    // A parallel is `Found`, `NotBetween` or `NoRoot`; the other cases have the bytes of `numbersOf` all the same.
     match answer {
         Answer::NoPiece => put_point(out, 0, 0.0, 0.0),
         Answer::NoWalk => put_point(out, 1, 0.0, 0.0),

@@ -3,7 +3,7 @@
 ghost use mathlib.Core.Path.{_≡_};
 ghost use Rattle.table.specs.States.{unset, givenOf, needsSettings, withPrecision, withAllowance};
 
-// Whether each is set stands in `precise` and `allowed`. Flat, with padding at its end alone: a gap inside made each copy between two commands slow.
+// Whether each is set stands in `precise` and `allowed`. Flat, with padding at its end alone, since it is copied with every command (docs/DECISIONS.md).
 pub struct State {
     pub precision: f64,
     pub precise: bool,
