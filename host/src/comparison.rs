@@ -1,6 +1,7 @@
 //! The finder against document 01's rules and the reference, job file by job file.
 
 mod guarded;
+mod stack;
 
 use crate::commands::{ALLOWANCE, PRECISION, REPLY_BUFFER};
 use crate::finder;
@@ -9,6 +10,7 @@ use crate::outcomes::{print_row, Outcomes};
 use crate::reference::{self, Panic};
 use crate::rules::{self, Answer, Content, Reply};
 use guarded::{Guarded, Side};
+use stack::Stack;
 
 const SEED: u64 = 0x4A6F_6273;
 const MOST_SHOWN: u64 = 10;
@@ -57,6 +59,7 @@ struct Comparison {
     maker: Maker,
     job: Guarded,
     reply: Guarded,
+    stack: Stack,
     /// By class, and at the end for files that are no valid file of the maker's.
     tallies: Vec<Tally>,
     total: Tally,
@@ -76,6 +79,7 @@ impl Comparison {
             maker,
             job: Guarded::new(job_files::LONGEST),
             reply: Guarded::new(REPLY_BUFFER),
+            stack: Stack::new(),
             tallies,
             total: Tally::default(),
             outcomes: Outcomes::default(),
@@ -93,7 +97,7 @@ impl Comparison {
         self.job.fill(job.len(), side, random);
         self.job.buffer().copy_from_slice(job);
         self.reply.fill(buffer, side, random);
-        let answer = finder::run(self.job.buffer(), self.reply.buffer());
+        let answer = self.stack.run(&mut self.job, &mut self.reply);
         let written = expected.written();
         let agreed = finder::Answer {
             number: expected.number,
@@ -248,7 +252,19 @@ impl Comparison {
         for outcome in &missing {
             println!("jobs: FAILED, not seen: {outcome}");
         }
-        self.files_differ == 0 && missing.is_empty()
+        let suffices = self.stack_suffices();
+        self.files_differ == 0 && missing.is_empty() && suffices
+    }
+
+    fn stack_suffices(&self) -> bool {
+        let (used, promised) = (self.stack.used(), stack::promised());
+        println!(
+            "stack: at most {used} bytes of finder_run in use, FINDER_STACK_BYTES is {promised}"
+        );
+        if used > promised {
+            println!("stack: FAILED, include/finder.h asks too little of a host");
+        }
+        used <= promised
     }
 }
 

@@ -1,9 +1,11 @@
 //! The example job: the edges of a camera's field of view in the north and of its mirror image in the south, two cones, a parallel along an edge, and
 //! an edge that is refused.
 
+mod words;
+
 use crate::commands::{Command, ARC, EQUATORIAL_CONE, PARALLEL, POLAR_CONE, REPLY_BUFFER};
 use crate::job_files;
-use crate::rules;
+use crate::rules::{self, Reply};
 
 /// The corners of a field of 20 degrees, as longitude and latitude.
 const CORNERS: [[f64; 2]; 4] = [
@@ -38,10 +40,21 @@ pub fn job() -> Vec<u8> {
 }
 
 /// The example's replies, by document 01's rules and the reference.
+fn expected() -> Vec<Reply> {
+    rules::run(&job(), REPLY_BUFFER).replies
+}
+
+/// Their bytes.
 pub fn replies() -> Vec<u8> {
     let mut replies = Vec::new();
-    for reply in rules::run(&job(), REPLY_BUFFER).replies {
+    for reply in expected() {
         reply.write(&mut replies);
     }
     replies
+}
+
+/// What a host program says of them.
+pub fn points() -> Vec<u8> {
+    let points: String = expected().iter().map(words::of_reply).collect();
+    points.into_bytes()
 }

@@ -9,7 +9,7 @@ pub struct Answer {
 }
 
 unsafe extern "C" {
-    fn finder_run(
+    pub(crate) fn finder_run(
         job: *const u8,
         job_len: usize,
         reply: *mut u8,

@@ -1,4 +1,5 @@
--- The constants that document 01 and the source name, as bit patterns. `proofs/Constants.antt` shows each to be what they write. Definitions only.
+-- The constants that document 01 and the source name, as bit patterns. Definitions, and the claim that each is what they write;
+-- `proofs/Constants.antt` proves it.
 use lib.Ieee.{Float, binary64, ofBits, round}
 use Prim.Native.Nat.{_^_}
 use mathlib.Core.Bool.{false}

@@ -1,5 +1,5 @@
 -- A list of commands: the replies, in their order, and the walks that begin, each with its allowance. A job file is parsed into one such list. Definitions, and the
--- law that ties this allowance to the settings; `proofs/Last.antt` proves it.
+-- claim that ties this allowance to the settings; `proofs/Last.antt` proves it.
 use lib.Dec.{eqb}
 use lib.ListN.{getD}
 use Prim.Native.Nat.{ℕ}
@@ -33,7 +33,7 @@ eachWith n [] = []
 eachWith n (w ∷ ws) = record { walk = w; allowance = n } ∷ eachWith n ws
 
 -- "A walk's allowance is the operand of the last code 02 before its job" (document 01, "Walks"): `last` is that of the last one so far; where none came,
--- no walk begins (`LastIsSet`)
+-- no walk begins (`AllowanceIsLast`)
 abbrev pub lastAfter : Allowance → Command → Allowance
 lastAfter last c = cond (eqb (c .code) 2) (setTo (getD (c .operands) 0 0)) last
 
@@ -62,3 +62,7 @@ lastOf last (c ∷ cs) = lastOf (lastAfter last c) cs
 pub record LastIsSet (cs : List Command) : Type 0 where
   pub left : allowanceOf (leftBy unset cs) ≡ lastOf noAllowance cs
   pub none : lastOf noAllowance cs ≡ noAllowance → (code : ℕ) (b : List ℕ) → walksOf (leftBy unset cs) code b ≡ []
+
+-- After any commands of a file.
+abbrev pub AllowanceIsLast : Type 0
+AllowanceIsLast = (cs : List Command) → LastIsSet cs

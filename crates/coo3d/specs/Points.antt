@@ -1,8 +1,11 @@
--- A point is a record of five floats, x, y, z, longitude and latitude (document 01, "Points"). Definitions only.
+-- A point is a record of five floats, x, y, z, longitude and latitude (document 01, "Points"). Definitions, and a claim on heights; `proofs/Heights.antt`
+-- proves it.
 use lib.Ieee.{Float, neg, lt, le}
-use mathlib.Core.Bool.{Bool, cond, _&&_}
-use Rattle.angles.specs.Floats.{plusZero}
+use mathlib.Core.Path.{_≡_}
+use mathlib.Core.Bool.{Bool, true, cond, _&&_}
+use Rattle.angles.specs.Floats.{plusZero, one}
 use Rattle.angles.specs.Constants.{halfPi, twoPi}
+use Rattle.bounds.specs.Ranges.{between}
 use Rattle.coo3d.specs.declared.vect3.Vect3.{Vect3}
 use Rattle.coo3d.specs.declared.point.Coo3D.{Coo3D}
 use Rattle.coo3d.specs.Vectors.{vect}
@@ -34,3 +37,7 @@ fromSphCoo lon lat =
 -- a point's vector
 unfoldable pub vectOf : Coo3D → Vect3
 vectOf p = vect (p .x) (p .y) (p .z)
+
+-- The height of a point from angles is a number from −1 to 1, where the latitude is in range.
+abbrev pub HeightInRange : Type 0
+HeightInRange = (lon lat : Float) → isLatitude lat ≡ true → between (neg one) one (fromSphCoo lon lat .z) ≡ true

@@ -5,6 +5,7 @@ use lib.ListN.{length, getD, take}
 use Prim.Native.Nat.{ℕ, zero, suc, _+_}
 use native.Mathlib.Omega.{arith}
 use mathlib.Core.Path.{_≡_, refl, ap}
+use mathlib.Core.Logic.{_↔_}
 use mathlib.Core.Bool.{Bool, true, false, cond, _||_}
 use mathlib.Core.List.{List, [], _∷_}
 use Rattle.table.specs.Table.{inTable, operandWidth}
@@ -13,6 +14,7 @@ use Rattle.commands.specs.Commands.{Command}
 use Rattle.commands.specs.TwoLists.{command, LikeCommands, none, one}
 use Rattle.jobs.specs.Files.{Parsed, commands, refused, before, ended, parse, fileOf, commandsIn}
 use Rattle.jobs.specs.Alike.{allowancesFrom, isAllowance, Alike, SamePlaces}
+use Rattle.jobs.specs.TwoFiles.{IsAccepted}
 
 -- bytes beside each other, of which the first `skip` are operands, of code 02 or not
 data Beside : Bool → ℕ → List ℕ → List ℕ → Type 0 where
@@ -67,7 +69,7 @@ same-operands (operand e r) n = rw (e n, same-operands r n)
 same-operands (command-byte r) n = refl
 
 -- both files accepted, with commands in pairs, or both refused
-data Paired : Parsed → Parsed → Type 0 where
+pub data Paired : Parsed → Parsed → Type 0 where
   accepted : {cs ds : List Command} → LikeCommands cs ds → Paired (commands cs) (commands ds)
   neither : {number place number₂ place₂ : ℕ} → Paired (refused number place) (refused number₂ place₂)
 
@@ -101,11 +103,15 @@ paired place (command-byte {x = x} {xs = xs} r) =
     (paired-cond (eqb x 0) (paired-ended (place + 1) r) (paired-cond (leb (operandWidth x) (length xs)) command neither))
     neither)
 
-paired-files : (job other : List ℕ) → Alike job other → Paired (fileOf job) (fileOf other)
+pub paired-files : (job other : List ℕ) → Alike job other → Paired (fileOf job) (fileOf other)
 unfolding fileOf
 paired-files job other a =
     rw (← a .same-length)
     (paired-cond (eqb (length job) 0 || ltb 16384 (length job)) neither (paired 0 (beside-files a)))
+
+pub both-accepted : {p q : Parsed} → Paired p q → IsAccepted p ↔ IsAccepted q
+both-accepted (accepted h) = (λ x. tt, λ x. tt)
+both-accepted neither = (λ x. x, λ x. x)
 
 like-commands : {p q : Parsed} → Paired p q → LikeCommands (commandsIn p) (commandsIn q)
 like-commands (accepted h) = h

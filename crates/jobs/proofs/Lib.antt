@@ -4,3 +4,4 @@ pub mod Passes
 pub mod Alike
 pub mod TwoFiles
 pub mod Examples
+pub mod BothSides

@@ -51,10 +51,7 @@ pub record ConeExamples : Type 0 where
   pub in-south : Replies 5 minusSevenTenths (5 ∷ 0 ∷ 3 ∷ 0 ∷ floatBytes minusSevenTenths)
   pub taken-at-half : (precision : Float) → Taken 4 half precision (floatBytes half ++ floatBytes plusZero ++ floatBytes one ++ 1 ∷ [])
   pub taken-at-t : (precision : Float) → Taken 4 transitionZ precision (floatBytes transitionZ ++ floatBytes plusZero ++ floatBytes one ++ 1 ∷ [])
-  pub taken-in-south :
-      (precision : Float)
-      → Taken 5 minusSevenTenths precision
-      (floatBytes minusSevenTenths ++ floatBytes plusZero ++ floatBytes plusZero ++ floatBytes one ++ 1 ∷ 1 ∷ [])
+  pub taken-in-south : (precision : Float) → Taken 5 minusSevenTenths precision (floatBytes minusSevenTenths ++ floatBytes plusZero ++ floatBytes plusZero ++ floatBytes one ++ 1 ∷ 1 ∷ [])
 
 pub record Examples : Type 0 where
   pub of-root : RootExamples

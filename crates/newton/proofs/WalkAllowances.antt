@@ -13,7 +13,7 @@ use Rattle.newton.specs.declared.slope.Slope.{Slope}
 use Rattle.newton.specs.declared.walk.Start.{Start}
 use Rattle.newton.specs.declared.walk.Walk.{Walk}
 use Rattle.newton.specs.Walks.{goingOf, startWalk, stepOf, walkFrom, walkOf}
-use Rattle.newton.specs.WalkAllowances.{freeSteps, EndsFrom, EndsWithin, EqualOrEnds, TwoAllowances}
+use Rattle.newton.specs.WalkAllowances.{freeSteps, EndsFrom, EndsWithin, EqualOrEnds, TwoAllowances, AllowancesOfWalk}
 
 module _ (slope : Slope) (limit : Float) where
   -- a walk takes no step back
@@ -88,7 +88,7 @@ ordered s a b l =
     }
 
 -- The law of two allowances, for every walk.
-pub two-allowances : (s : Start) (a b : ℕ) → TwoAllowances s a b
+pub two-allowances : AllowancesOfWalk
 two-allowances s a b = by (leb a b) refl
   where
     by : (x : Bool) → leb a b ≡ x → TwoAllowances s a b

@@ -33,3 +33,6 @@ EqualOrEnds a b s = (a ≡ b) ⊎ EndsWithin s (min a b)
 pub record TwoAllowances (s : Start) (a b : ℕ) : Type 0 where
   pub law : (walkOf s a ≡ walkOf s b) ↔ EqualOrEnds a b s
   pub steps-tell : walkOf s a .steps ≡ walkOf s b .steps → EqualOrEnds a b s
+
+abbrev pub AllowancesOfWalk : Type 0
+AllowancesOfWalk = (s : Start) (a b : ℕ) → TwoAllowances s a b

@@ -8,7 +8,7 @@ use Rattle.newton.proofs.WalkAllowances.{two-allowances}
 use Rattle.plans.specs.declared.plan.Plan.{Plan}
 use Rattle.plans.specs.declared.plan.Plan.the-variants.{NoPiece, NoWalk, Begins}
 use Rattle.plans.specs.Plans.{slotAt, slotsOf, walksIn, stepsOf}
-use Rattle.plans.specs.PlanAllowances.{AllEqualOrEnd, PlansAllowances}
+use Rattle.plans.specs.PlanAllowances.{AllEqualOrEnd, AllowancesOfPlans}
 
 module _ (a b : ℕ) where
   tell : (ps : List Plan) → stepsOf (slotsOf a ps) ≡ stepsOf (slotsOf b ps) → AllEqualOrEnd a b (walksIn ps)
@@ -27,5 +27,5 @@ module _ (a b : ℕ) where
       let w : walkOf s a ≡ walkOf s b = two-allowances s a b .law .1 (m .0) in simp (w, same ps (m .1))
 
 -- The law of two allowances, for any plans.
-pub plans-allowances : (ps : List Plan) (a b : ℕ) → PlansAllowances ps a b
+pub plans-allowances : AllowancesOfPlans
 plans-allowances ps a b = record { law = (λ h. tell a b ps (ap stepsOf h), same a b ps); steps-tell = tell a b ps }

@@ -18,3 +18,6 @@ AllEqualOrEnd a b (s ∷ ss) = EqualOrEnds a b s × AllEqualOrEnd a b ss
 pub record PlansAllowances (ps : List Plan) (a b : ℕ) : Type 0 where
   pub law : (slotsOf a ps ≡ slotsOf b ps) ↔ AllEqualOrEnd a b (walksIn ps)
   pub steps-tell : stepsOf (slotsOf a ps) ≡ stepsOf (slotsOf b ps) → AllEqualOrEnd a b (walksIn ps)
+
+abbrev pub AllowancesOfPlans : Type 0
+AllowancesOfPlans = (ps : List Plan) (a b : ℕ) → PlansAllowances ps a b

@@ -1,5 +1,6 @@
 -- Document 01, "Examples": "Root of 2 is 3FF6A09E667F3BCD; of 4 is 2; of 2⁻¹⁰⁷⁴ is 2⁻⁵³⁷; of −0 is −0; of −1 NaN." And "Jobs
--- and replies": "A NaN is written 7FF8000000000000." Definitions only.
+-- and replies": "A NaN is written 7FF8000000000000." The claim; `proofs/RootExamples.antt`
+-- proves it.
 use mathlib.Core.Path.{_≡_}
 use lib.IntN.{pos, negsuc}
 use lib.Ieee.{nan, binary64, ofInt, ofBits, toBits, neg, round}

@@ -5,7 +5,6 @@ mod normal;
 pub mod patterns;
 
 ghost use mathlib.Core.Path.{_≡_};
-ghost use lib.Ieee.{binary64, ofBits, toBits};
 ghost use Rattle.root.specs.Root.{rootOf};
 
 // The square root of x.
@@ -29,12 +28,4 @@ pub fn root(x: f64) -> f64
         return x;
     }
     f64::from_bits(normal::positive(b))
-}
-
-// The same on bit patterns, for every pattern; a NaN answer is 7FF8000000000000.
-#[no_mangle]
-pub extern "C" fn finder_root(bits: u64) -> u64
-    ensures { λ r. ⌜ r ≡ toBits binary64 (rootOf (ofBits binary64 bits)) ⌝ }
-{
-    patterns::bits_of(root(patterns::float_of(bits)))
 }

@@ -1,10 +1,11 @@
 -- Document 01, "Refusals", 10: the split of an arc at −T and T, before any walk, by the cases of the source's `arc_special_points`. Definitions and
 -- a claim.
-use lib.Ieee.{Float, neg, lt, le, ne}
+use lib.Ieee.{Float, neg, lt, le}
 use mathlib.Core.Path.{_≡_}
-use mathlib.Core.Logic.{_⊎_}
-use mathlib.Core.Bool.{Bool, true, false, cond, not, _&&_}
+use mathlib.Core.Logic.{_⊎_, _↔_}
+use mathlib.Core.Bool.{Bool, true, cond, not, _&&_}
 use Rattle.angles.specs.Constants.{transitionZ}
+use Rattle.bounds.specs.Ranges.{isNumber}
 use Rattle.coo3d.specs.Points.{pointOf, vectOf}
 use Rattle.coo3d.specs.declared.point.Coo3D.{Coo3D}
 use Rattle.crossing.specs.GreatArcs.{greatArc}
@@ -79,22 +80,24 @@ splitOrdered p1 p2 =
 unfoldable pub splitOf : Coo3D → Coo3D → Split
 splitOf p1 p2 = cond (lt (p2 .z) (p1 .z)) (splitOrdered p2 p1) (splitOrdered p1 p2)
 
--- not a NaN
-abbrev pub isNumber : Float → Type 0
-isNumber z = ne z z ≡ false
+-- the ends from the lower one up
+abbrev pub lowerEnd : Coo3D → Coo3D → Coo3D
+lowerEnd p1 p2 = cond (lt (p2 .z) (p1 .z)) p2 p1
 
--- a crossing that has to split the arc from p1 up to p2 is of kind 5
-abbrev pub SplitHasNoRoot : Coo3D → Coo3D → Type 0
-SplitHasNoRoot p1 p2 =
-    ((fromSouth p1 ≡ true) × (intersectParallel (vectOf p1) (vectOf p2) (neg transitionZ) ≡ crossing.NoRoot))
-    ⊎ ((toNorth p1 p2 ≡ true) × (intersectParallel (vectOf p1) (vectOf p2) transitionZ ≡ crossing.NoRoot))
+abbrev pub upperEnd : Coo3D → Coo3D → Coo3D
+upperEnd p1 p2 = cond (lt (p2 .z) (p1 .z)) p1 p2
 
--- "An arc's crossing with −T or T, needed to split it, is of kind 5": where both heights are numbers, status 10 comes on this condition only,
--- whichever end is the lower one. `proofs/Splits.antt` proves it.
-abbrev pub OnlyKind5 : Type 0
-OnlyKind5 =
-    (p1 p2 : Coo3D)
-    → isNumber (p1 .z)
-    → isNumber (p2 .z)
-    → splitOf p1 p2 ≡ Failed
-    → SplitHasNoRoot p1 p2 ⊎ SplitHasNoRoot p2 p1
+-- The crossing with the parallel at z, of the arc from p1 up to p2, is needed to split it, as z lies strictly between their heights; and it is of kind 5.
+pub record NeededOfKind5 (z : Float) (p1 p2 : Coo3D) : Type 0 where
+  pub above-p1 : lt (p1 .z) z ≡ true
+  pub below-p2 : lt z (p2 .z) ≡ true
+  pub of-kind-5 : intersectParallel (vectOf p1) (vectOf p2) z ≡ crossing.NoRoot
+
+-- "An arc's crossing with −T or T, needed to split it, is of kind 5", from p1 up to p2
+abbrev pub CrossingOfKind5 : Coo3D → Coo3D → Type 0
+CrossingOfKind5 p1 p2 = NeededOfKind5 (neg transitionZ) p1 p2 ⊎ NeededOfKind5 transitionZ p1 p2
+
+-- A split fails on this condition, and on no other, where both heights are numbers; those of ends in range are (`HeightInRange` of coo3d).
+-- `proofs/Splits.antt` proves it.
+abbrev pub FailsAtKind5 : Type 0
+FailsAtKind5 = (p1 p2 : Coo3D) → isNumber (p1 .z) → isNumber (p2 .z) → (splitOf p1 p2 ≡ Failed) ↔ CrossingOfKind5 (lowerEnd p1 p2) (upperEnd p1 p2)

@@ -3,3 +3,4 @@ mod Widths
 mod Laws
 pub mod ReplyLengths
 pub mod CommandAllowances
+pub mod StatusTen

@@ -1,14 +1,12 @@
--- A reply is as long as the table says for its code, refused or not.
+-- A reply is as long as the table says for its code, refused or not: `ReplyLength` (specs/Turns.antt).
 use lib.Dec.{eqb}
-use lib.ListN.{length}
-use Prim.Native.Nat.{ℕ, _+_}
+use Prim.Native.Nat.{ℕ}
 use native.Mathlib.Omega.{arith}
-use mathlib.Core.Path.{_≡_}
 use mathlib.Core.List.{List}
 use Rattle.table.specs.States.{givenOf}
 use Rattle.table.specs.Rows.{Work}
 use Rattle.table.specs.Table.{rowOf, answerWidth}
-use Rattle.table.specs.Turns.{refusalOf, workOf, replyIn, turnOf, Fits, replyBytes, replyOf}
+use Rattle.table.specs.Turns.{refusalOf, workOf, replyIn, turnOf, Fits, replyBytes, replyOf, ReplyLength}
 use Rattle.table.specs.declared.state.State.{State}
 use Rattle.table.proofs.Cases.{by-test}
 use Rattle.table.proofs.Laws.{law, fits-refused}
@@ -23,6 +21,6 @@ module _ (s : State) (code : ℕ) (b : List ℕ) where
       (λ e. law code .fits n (givenOf s) b)
       (λ e. fits-refused (refusalOf r (givenOf s) b) (r .answerWidth))
 
-  pub length-reply : length (replyOf s code b) ≡ 2 + answerWidth code
-  unfolding replyOf replyBytes
-  length-reply = omega (arith, reply-fits)
+pub length-reply : ReplyLength
+unfolding replyOf replyBytes
+length-reply s code b = omega (arith, reply-fits s code b)

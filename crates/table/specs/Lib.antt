@@ -3,3 +3,4 @@ pub mod Rows
 pub mod Table
 pub mod Turns
 pub mod CommandAllowances
+pub mod StatusTen

@@ -1,5 +1,5 @@
 -- One command, for any row of the table: document 01's refusals 6 to 9 in checking order, the reply, the state left, and the walks that begin.
--- Definitions only.
+-- Definitions, and a claim on the length of a reply; `proofs/ReplyLengths.antt` proves it.
 use lib.Dec.{eqb}
 use lib.Ieee.{Float}
 use lib.ListN.{length, getD, replicate}
@@ -117,3 +117,7 @@ after s code b = turnOf (rowOf code) s b .state
 
 unfoldable pub walksOf : State → ℕ → List ℕ → List Start
 walksOf s code b = walksIn (plansIn (workOf (rowOf code) (givenOf s) b))
+
+-- Every reply is as long as the table says for its code, refused or not.
+abbrev pub ReplyLength : Type 0
+ReplyLength = (s : State) (code : ℕ) (b : List ℕ) → length (replyOf s code b) ≡ 2 + answerWidth code

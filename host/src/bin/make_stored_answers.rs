@@ -1,4 +1,4 @@
-//! Makes the stored answers, and the example job with its replies, from document 01's rules and the reference.
+//! Makes the stored answers, and the example job with its replies and what a host program says of them, from document 01's rules and the reference.
 //!
 //! `make_stored_answers [--check]`, run in the repository's root, writes the files; with `--check` it writes nothing, and fails unless those that are
 //! there are the same.
@@ -7,13 +7,14 @@ use std::env;
 use std::process::ExitCode;
 
 #[cfg(reference)]
-fn files() -> Result<[(&'static str, Vec<u8>); 3], String> {
+fn files() -> Result<[(&'static str, Vec<u8>); 4], String> {
     let stored = host::stored_answers::make()?;
     println!("make_stored_answers: {stored}");
     Ok([
         ("crates/stored_answers/stdin", stored.bytes),
         ("examples/field_of_view.job", host::example::job()),
         ("examples/field_of_view.reply", host::example::replies()),
+        ("examples/field_of_view.points", host::example::points()),
     ])
 }
 

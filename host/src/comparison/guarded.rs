@@ -82,6 +82,15 @@ impl Guarded {
         &mut self.memory[self.place.clone()]
     }
 
+    /// The buffer's address and length. One without bytes is at the first side given as null.
+    pub fn lent(&mut self) -> (*mut u8, usize) {
+        if self.place.end == 0 {
+            return (ptr::null_mut(), 0);
+        }
+        let buffer = self.buffer();
+        (buffer.as_mut_ptr(), buffer.len())
+    }
+
     /// Whether the bytes before and after the buffer, and its own from this place on, are still the old ones.
     pub fn is_kept_from(&self, place: usize) -> bool {
         let filled = self.filled();
@@ -90,6 +99,13 @@ impl Guarded {
             self.place.start - filled.start,
         );
         memory[..at] == self.old[..at] && memory[at + place..] == self.old[at + place..]
+    }
+
+    /// How many bytes at the start of all that was filled are still the old ones.
+    pub fn kept_at_start(&self) -> usize {
+        let filled = self.memory[self.filled()].iter();
+        let kept = filled.zip(&self.old).take_while(|(a, b)| a == b);
+        kept.count()
     }
 
     fn filled(&self) -> Range<usize> {

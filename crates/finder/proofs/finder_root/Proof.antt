@@ -1,7 +1,7 @@
 -- The three contracts, one after the other.
 use borrow.Author.Needs.{needs}
-use Rattle.root.proofs.finder_root.Statement.{statement}
-use Rattle.root.proofs.finder_root.Tie as tie
+use Rattle.finder.proofs.finder_root.Statement.{statement}
+use Rattle.finder.proofs.finder_root.Tie as tie
 
 float-of-requires : tie.Need-float-of-requires
 float-of-requires c κs = search needs

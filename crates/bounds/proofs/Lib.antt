@@ -1,0 +1,4 @@
+pub mod Order
+pub mod Rounding
+pub mod Bounds
+pub mod Ranges

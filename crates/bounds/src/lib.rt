@@ -1,0 +1,1 @@
+// No code: what the angle functions never leave, and the laws of rounding by which it is shown.
