@@ -1,5 +1,6 @@
 //! The finder against document 01's rules and the reference, job file by job file.
 
+pub mod depends;
 mod guarded;
 mod stack;
 
@@ -9,6 +10,7 @@ use crate::job_files::{self, Maker};
 use crate::outcomes::{print_row, Outcomes};
 use crate::reference::{self, Panic};
 use crate::rules::{self, Answer, Content, Reply};
+use depends::Depends;
 use guarded::{Guarded, Side};
 use stack::Stack;
 
@@ -69,6 +71,7 @@ struct Comparison {
     files: u64,
     files_differ: u64,
     shown: u64,
+    depends: Depends,
 }
 
 impl Comparison {
@@ -87,6 +90,7 @@ impl Comparison {
             files: 0,
             files_differ: 0,
             shown: 0,
+            depends: Depends::new(),
         }
     }
 
@@ -232,6 +236,7 @@ impl Comparison {
             "slots that the reference did not come to",
             [self.unknown_slots],
         );
+        self.depends.print();
     }
 
     /// Whether all is well after a run on so many random jobs.
@@ -247,13 +252,13 @@ impl Comparison {
         let missing = if count < LONG_RUN {
             Vec::new()
         } else {
-            self.outcomes.missing()
+            [self.outcomes.missing(), self.depends.missing()].concat()
         };
         for outcome in &missing {
             println!("jobs: FAILED, not seen: {outcome}");
         }
-        let suffices = self.stack_suffices();
-        self.files_differ == 0 && missing.is_empty() && suffices
+        let (agree, suffices) = (self.depends.verdict(), self.stack_suffices());
+        self.files_differ == 0 && agree && missing.is_empty() && suffices
     }
 
     fn stack_suffices(&self) -> bool {
@@ -282,6 +287,7 @@ pub fn run(count: u64) -> bool {
     let systematic = comparison.total.compared;
     while comparison.total.compared - systematic < count {
         comparison.mixed();
+        comparison.depends.compare();
     }
     comparison.print();
     comparison.verdict(count)

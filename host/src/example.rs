@@ -1,42 +1,22 @@
-//! The example job: the edges of a camera's field of view in the north and of its mirror image in the south, two cones, a parallel along an edge, and
-//! an edge that is refused.
+//! The example job, examples/field_of_view.txt, as a job file, with its replies by the reference.
 
+mod listing;
+mod tables;
 mod words;
 
-use crate::commands::{Command, ARC, EQUATORIAL_CONE, PARALLEL, POLAR_CONE, REPLY_BUFFER};
-use crate::job_files;
+use crate::commands::REPLY_BUFFER;
+use crate::program::text;
 use crate::rules::{self, Reply};
 
-/// The corners of a field of 20 degrees, as longitude and latitude.
-const CORNERS: [[f64; 2]; 4] = [
-    [2.5148, 0.9857],
-    [2.7039, 0.662],
-    [2.3275, 0.5101],
-    [2.0596, 0.7856],
-];
-/// No latitude.
-const TOO_FAR_NORTH: f64 = 1.75;
+/// The text as the tables name it, seen from the repository's root.
+const NAME: &str = "examples/field_of_view.txt";
+const TEXT: &str = include_str!("../../examples/field_of_view.txt");
 
 pub fn job() -> Vec<u8> {
-    let mut commands = vec![Command::precision(1e-9), Command::allowance(20)];
-    for side in [1.0, -1.0] {
-        for (place, [lon1, lat1]) in CORNERS.into_iter().enumerate() {
-            let [lon2, lat2] = CORNERS[(place + 1) % CORNERS.len()];
-            commands.push(Command::new(
-                ARC,
-                [lon1, side * lat1, lon2, side * lat2],
-                [],
-            ));
-        }
+    match text::read(TEXT) {
+        Ok(made) => made.job,
+        Err(wrong) => panic!("{NAME}:{}: {}", wrong[0].line, wrong[0].what),
     }
-    let [_, _, [lon1, lat1], [lon2, lat2]] = CORNERS;
-    commands.extend([
-        Command::new(EQUATORIAL_CONE, [0.276, 0.199, 0.1], [1]),
-        Command::new(POLAR_CONE, [0.887, 0.7, 0.841, 0.1], [1, 1]),
-        Command::new(PARALLEL, [lon1, lat1, lon2, lat2, 0.6], []),
-        Command::new(ARC, [lon1, lat1, lon2, TOO_FAR_NORTH], []),
-    ]);
-    job_files::file_of(&commands)
 }
 
 /// The example's replies, by document 01's rules and the reference.
@@ -57,4 +37,15 @@ pub fn replies() -> Vec<u8> {
 pub fn points() -> Vec<u8> {
     let points: String = expected().iter().map(words::of_reply).collect();
     points.into_bytes()
+}
+
+/// What `finder list` says of them in words.
+pub fn list() -> Vec<u8> {
+    listing::of_replies(&expected()).into_bytes()
+}
+
+/// The same as a table: csv, and json.
+pub fn tables() -> [Vec<u8>; 2] {
+    let rows = tables::of_replies(NAME, &expected());
+    [tables::csv(&rows), tables::json(&rows)].map(String::into_bytes)
 }

@@ -1,7 +1,8 @@
 //! Random job files: jobs of all classes with changes of the settings between them, and damaged files.
 
-use crate::commands::{row, Command, ARC, END, EQUATORIAL_CONE, MOST_BYTES, PARALLEL, POLAR_CONE};
+use crate::commands::{Command, ARC, END, EQUATORIAL_CONE, MOST_BYTES, PARALLEL, POLAR_CONE};
 use crate::inputs::{self, Input, Inputs, NOT_FINITE};
+use crate::program::replies;
 use crate::random::Random;
 
 /// Room for a job with the settings before it, for 00 and for what pads a file.
@@ -130,17 +131,11 @@ impl Maker {
     }
 }
 
-/// The places of the commands of a valid file.
+/// The places of the commands of a valid file, with that of code 00.
 pub fn places(job: &[u8]) -> Vec<usize> {
-    let mut places = vec![0];
-    loop {
-        let at = places[places.len() - 1];
-        let row = row(job[at]).expect("the file is valid");
-        if job[at] == END {
-            return places;
-        }
-        places.push(at + 1 + row.operands());
-    }
+    let commands = replies::commands(job).into_iter();
+    let places = commands.map(|(place, _)| place);
+    places.chain([job.len() - 1]).collect()
 }
 
 /// An arc from the equator into the north cap, both cones and a parallel, each with a point.

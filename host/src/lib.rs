@@ -15,6 +15,7 @@ pub mod job_files;
 pub mod outcomes;
 #[cfg(reference)]
 pub mod plain_reference;
+pub mod program;
 pub mod programs;
 pub mod random;
 #[cfg(reference)]

@@ -1,7 +1,7 @@
 -- Both sides of each "exactly when" (specs/BothSides.antt), each by its theorem; what it asks of the example is computed.
 use lib.Ieee.{Float, ofBits, ofInt, toBits, neg, add, sub, mul, div, lt, le, ne}
 use lib.ListN.{length, getD, length-replicate}
-use Prim.Native.Nat.{ℕ, zero, suc, _≤_}
+use Prim.Native.Nat.{ℕ, zero, suc, _≤_, _<_}
 use native.Mathlib.Omega.{arith}
 use mathlib.Core.Path.{_≡_, refl, sym, ap, _∙_}
 use mathlib.Core.Bool.{Bool, true, false, true≢false}
@@ -22,26 +22,33 @@ use Rattle.crossing.specs.declared.parallel.Crossing.{Crossing}
 use Rattle.crossing.specs.declared.parallel.Crossing.the-variants as crossing
 use Rattle.newton.specs.Slopes.{coneOf, termsOf, secondOf, fOverDfEqr, ratioAt}
 use Rattle.newton.specs.Regions.{cteEqr}
-use Rattle.newton.specs.Walks.{limitOf, startWalk, goingOf, stepOf}
+use Rattle.newton.specs.Walks.{limitOf, startWalk, goingOf, stepOf, walkFrom, walkOf}
 use Rattle.newton.specs.WalkAllowances.{freeSteps, EndsWithin, EqualOrEnds}
 use Rattle.newton.proofs.WalkAllowances.{two-allowances}
 use Rattle.words.specs.Words.{little, wordAt, floatAt, bytes, floatBytes}
-use Rattle.plans.specs.Plans.{walksIn}
+use Rattle.plans.specs.Plans.{slotAt, slotsOf, stepsOf, stepsAt, walksIn}
+use Rattle.plans.specs.PlanAllowances.{AllEqualOrEnd}
+use Rattle.plans.specs.declared.plan.Plan.{Plan}
+use Rattle.plans.specs.declared.plan.Plan.the-variants.{Begins}
+use Rattle.plans.specs.declared.ending.Ending.the-variants.{EqrCone}
 use Rattle.special_points_finder.specs.Cones.{coneOfRadius, conePlanInEqr}
 use Rattle.splits.specs.Splits.{lowerEnd, upperEnd, NeededOfKind5, CrossingOfKind5}
-use Rattle.table.specs.States.{givenOf, needsSettings, changed, withPrecision, withAllowance}
+use Rattle.table.specs.States.{unset, givenOf, needsSettings, changed, withPrecision, withAllowance}
 use Rattle.table.specs.Rows.{isHeight, isRadius, isFlag}
 use Rattle.table.specs.Table.{firstEnd, secondEnd, precision, allowance, arc, coneInEqr, rowOf, widthIn, operandWidth, answerWidth}
 use Rattle.table.specs.Turns.{finiteFrom, flagsFrom, inRangeFrom, firstFailing, refusalOf, workOf, statusIn, plansIn, leftIn, turnOf, after, walksOf}
+use Rattle.table.proofs.Steps.{step-bytes}
 use Rattle.table.proofs.StatusTen.{status-ten}
 use Rattle.jobs.specs.Files.{fileOf, runFile}
 use Rattle.jobs.specs.Passes.{checkedOf}
 use Rattle.jobs.specs.declared.file.Checked.the-variants as check
 use Rattle.jobs.specs.Alike.{allowancesFrom, isAllowance, Alike}
 use Rattle.jobs.specs.TwoFiles.{Accepted, begunIn}
-use Rattle.jobs.specs.BothSides.{radius, jobWith, walk, SidesOfWalk, SidesOfTwoFiles, room, SidesOfTwoRuns, fromSouthPole, ready, SidesOfStatusTen}
+use Rattle.jobs.specs.EachReply.{Told, told, toldIn, EachPair, no-pair, pair, OfEachPair, stepsTold}
+use Rattle.jobs.specs.BothSides.{radius, jobWith, walk, SidesOfWalk, SidesOfTwoFiles, ofPrecision, ofAllowance, ofCone, SidesOfReplies, room, SidesOfTwoRuns, fromSouthPole, ready, SidesOfStatusTen}
 use Rattle.jobs.proofs.Passes.{accepted-run}
 use Rattle.jobs.proofs.TwoFiles.{demand-3, demand-3-of-runs}
+use Rattle.jobs.proofs.EachReply.{reply-by-reply, slot-by-slot, one-run-tells}
 
 -- ---- the walk
 goes-on : goingOf (walk .limit) (startWalk (walk .z)) ≡ true
@@ -65,6 +72,10 @@ not-at-once e = by (e .after) (e .in-time) (e .ended)
 
 neither : EqualOrEnds 0 1 walk → ⊥
 neither = ⊎-elim (λ (e : _≡_ {A = ℕ} 0 1). omega arith) not-at-once
+
+one-step : walkOf walk 2 .steps ≡ 1
+unfolding walkOf walkFrom goingOf startWalk limitOf minOf maxOf absOf stepOf ratioAt fOverDfEqr termsOf secondOf coneOf coneOfRadius cteEqr rootOf ofBits neg add sub mul div lt ne
+one-step = refl
 
 pub sides-of-walk : SidesOfWalk
 sides-of-walk =
@@ -110,6 +121,52 @@ sides-of-two-files =
       begun = begun;
       equal = demand-3 (jobWith 1) (jobWith 2) (accepted 1) (accepted 2) (alike 1 2) .law .1 (rw (begun 1, begun 2) (ends, tt));
       unlike = λ h. neither ((rw (begun 0, begun 1) at (demand-3 (jobWith 0) (jobWith 1) (accepted 0) (accepted 1) (alike 0 1) .law .0 h)) .0);
+    }
+
+-- ---- replies
+replies : (n : ℕ) → toldIn (jobWith n) ≡ ofPrecision ∷ ofAllowance n ∷ ofCone n ∷ []
+unfolding fileOf operandWidth widthIn rowOf precision allowance coneInEqr floatBytes bytes toBits ofBits add after turnOf leftIn workOf refusalOf firstFailing finiteFrom flagsFrom inRangeFrom finiteOf givenOf changed withPrecision withAllowance statusIn floatAt wordAt little
+replies n = refl
+
+plans : (n : ℕ) → ofCone n .plans ≡ Begins walk EqrCone ∷ []
+unfolding rowOf coneInEqr floatBytes bytes toBits ofBits add workOf refusalOf firstFailing finiteFrom flagsFrom inRangeFrom finiteOf isHeight isRadius isFlag givenOf needsSettings withPrecision withAllowance plansIn conePlanInEqr floatAt wordAt little neg lt le
+plans n = refl
+
+-- its one slot has one step
+steps-of-cone : (i : ℕ) → stepsTold i (ofCone 2) ≡ getD (1 ∷ []) i 0
+unfolding withAllowance stepsOf slotsOf slotAt
+steps-of-cone i =
+    let bytes = step-bytes (withAllowance (withPrecision unset one) 2) 4 (floatBytes half ++ floatBytes half ++ floatBytes radius ++ 0 ∷ []) i in
+    bytes ∙ ap (λ (ps : List Plan). stepsAt i (slotsOf 2 ps)) (plans 2) ∙ ap (λ (n : ℕ). getD (n ∷ []) i 0) one-step
+
+at-most-1 : (i : ℕ) → stepsTold i (ofCone 2) ≤ 1
+at-most-1 zero = omega (arith, steps-of-cone 0)
+at-most-1 (suc i) = omega (arith, steps-of-cone (suc i))
+
+below-2 : (i : ℕ) → stepsTold i (ofCone 2) < 2
+below-2 i = omega (arith, at-most-1 i)
+
+third : {P : Told → Told → Type 0} {t u v t′ u′ v′ : Told} → EachPair P (t ∷ u ∷ v ∷ []) (t′ ∷ u′ ∷ v′ ∷ []) → P v v′
+third (pair x (pair y (pair z no-pair))) = z
+
+of-cones : {P : Told → Told → Type 0} → OfEachPair P → (n m : ℕ) → P (ofCone n) (ofCone m)
+of-cones f n m = third (rw (replies n, replies m) at (f (jobWith n) (jobWith m) (alike n m)))
+
+pub sides-of-replies : SidesOfReplies
+unfolding walksIn AllEqualOrEnd
+sides-of-replies =
+    let law = of-cones reply-by-reply in
+    let steps = of-cones slot-by-slot in
+    let tells = of-cones one-run-tells 2 in
+    record {
+      replies = replies;
+      equal = law 1 2 .law .1 (rw (plans 1) (ends, tt));
+      unlike = λ h. neither ((rw (plans 0) at (law 0 1 .law .0 h)) .0);
+      equal-steps = steps 1 2 0 .1 (rw (plans 1) (ends, tt));
+      unlike-steps = λ h. neither ((rw (plans 0) at (steps 0 1 0 .0 h)) .0);
+      below = below-2;
+      same-for-1 = tells 1 below-2 .1 at-most-1;
+      not-for-0 = λ h. omega (arith, tells 0 below-2 .0 h 0, steps-of-cone 0);
     }
 
 -- ---- two runs

@@ -1,8 +1,8 @@
--- One example on either side of each "exactly when": a walk, demand 3, and status 10. `proofs/BothSides.antt` gets each by applying the theorem, so that what
+-- One example on either side of each "exactly when": a walk, demand 3, of files and of replies, and status 10. `proofs/BothSides.antt` gets each by applying the theorem, so that what
 -- it asks is met by something. Definitions and claims.
 use lib.Ieee.{Float, neg}
 use lib.ListN.{replicate}
-use Prim.Native.Nat.{ℕ}
+use Prim.Native.Nat.{ℕ, _<_}
 use mathlib.Core.Path.{_≡_}
 use mathlib.Core.Bool.{false}
 use mathlib.Core.List.{List, [], _∷_, _++_}
@@ -14,13 +14,15 @@ use Rattle.newton.specs.declared.slope.Slope.the-variants.{Equatorial}
 use Rattle.newton.specs.declared.walk.Start.{Start}
 use Rattle.words.specs.Words.{floatBytes}
 use Rattle.special_points_finder.specs.Cones.{coneOfRadius}
-use Rattle.table.specs.States.{unset, givenOf, withPrecision, withAllowance}
+use Rattle.table.specs.States.{unset, noAllowance, setTo, givenOf, withPrecision, withAllowance}
 use Rattle.table.specs.Table.{rowOf}
 use Rattle.table.specs.Turns.{refusalOf, replyOf}
 use Rattle.table.specs.StatusTen.{statusByte}
 use Rattle.table.specs.declared.state.State.{State}
 use Rattle.jobs.specs.Files.{replyFile, runFile}
+use Rattle.commands.specs.TwoLists.{command}
 use Rattle.jobs.specs.TwoFiles.{begunIn, writtenBytes}
+use Rattle.jobs.specs.EachReply.{Told, told, toldIn, stepsTold}
 
 -- precision 1, this allowance, and one cone: z 0.5, z0 0.5, radius 1.5, its south point
 abbrev pub radius : Float
@@ -54,6 +56,29 @@ written allowance = writtenBytes (runFile (jobWith allowance) room)
 pub record SidesOfTwoRuns : Type 0 where
   pub equal : written 1 ≡ written 2
   pub unlike : written 0 ≡ written 1 → ⊥
+
+-- the replies of one such file, the cone's the third
+abbrev pub ofPrecision : Told
+ofPrecision = told noAllowance unset (command 1 (floatBytes one))
+
+abbrev pub ofAllowance : ℕ → Told
+ofAllowance allowance = told noAllowance (withPrecision unset one) (command 2 (allowance ∷ []))
+
+abbrev pub ofCone : ℕ → Told
+ofCone allowance =
+    told (setTo allowance) (withAllowance (withPrecision unset one) allowance)
+    (command 4 (floatBytes half ++ floatBytes half ++ floatBytes radius ++ 0 ∷ []))
+
+-- Its one step is below the allowance 2: its reply is the same for 1, and another for 0.
+pub record SidesOfReplies : Type 0 where
+  pub replies : (allowance : ℕ) → toldIn (jobWith allowance) ≡ ofPrecision ∷ ofAllowance allowance ∷ ofCone allowance ∷ []
+  pub equal : ofCone 1 .reply ≡ ofCone 2 .reply
+  pub unlike : ofCone 0 .reply ≡ ofCone 1 .reply → ⊥
+  pub equal-steps : stepsTold 0 (ofCone 1) ≡ stepsTold 0 (ofCone 2)
+  pub unlike-steps : stepsTold 0 (ofCone 0) ≡ stepsTold 0 (ofCone 1) → ⊥
+  pub below : (i : ℕ) → stepsTold i (ofCone 2) < 2
+  pub same-for-1 : ofCone 2 .reply ≡ ofCone 1 .reply
+  pub not-for-0 : ofCone 2 .reply ≡ ofCone 0 .reply → ⊥
 
 -- an arc from the south pole up along longitude 0, to this latitude
 abbrev pub fromSouthPole : Float → List ℕ

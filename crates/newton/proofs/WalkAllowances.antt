@@ -3,7 +3,7 @@
 use lib.Ieee.{Float}
 use lib.Dec.{leb}
 use borrow.Author.Tests.{leb-true, leb-false}
-use Prim.Native.Nat.{ℕ, zero, suc, _≤_, min}
+use Prim.Native.Nat.{ℕ, zero, suc, _+_, _≤_, _<_, min}
 use native.Mathlib.Nat.{le-trans, min-eq-left, min-comm}
 use native.Mathlib.Omega.{arith}
 use mathlib.Core.Path.{_≡_, refl, sym, ap, _∙_}
@@ -13,7 +13,7 @@ use Rattle.newton.specs.declared.slope.Slope.{Slope}
 use Rattle.newton.specs.declared.walk.Start.{Start}
 use Rattle.newton.specs.declared.walk.Walk.{Walk}
 use Rattle.newton.specs.Walks.{goingOf, startWalk, stepOf, walkFrom, walkOf}
-use Rattle.newton.specs.WalkAllowances.{freeSteps, EndsFrom, EndsWithin, EqualOrEnds, TwoAllowances, AllowancesOfWalk}
+use Rattle.newton.specs.WalkAllowances.{freeSteps, EndsFrom, EndsWithin, EqualOrEnds, TwoAllowances, AllowancesOfWalk, FewerSteps}
 
 module _ (slope : Slope) (limit : Float) where
   -- a walk takes no step back
@@ -59,6 +59,39 @@ module _ (slope : Slope) (limit : Float) where
       (λ p. inl (ap suc p))
       (λ (q : EndsFrom slope limit a v). inr (record { after = suc (q .after); in-time = omega arith; ended = q .ended }))
       (apart a b (goingOf limit v) v refl (omega arith) h)
+
+  -- k steps, which are fewer than n: the walk has ended within k
+  fewer : (n k : ℕ) (going : Bool) (w : Walk)
+      → going ≡ goingOf limit w
+      → k < n
+      → walkFrom slope limit n going w .steps ≡ w .steps + k
+      → EndsFrom slope limit k w
+  unfolding walkFrom freeSteps stepOf
+  fewer zero k going w e l h = absurd (omega arith)
+  fewer (suc n) k false w e l h = at-once k w (sym e)
+  fewer (suc n) zero true w e l h = let v = stepOf slope w in absurd (omega (arith, grows n (goingOf limit v) v))
+  fewer (suc n) (suc k) true w e l h =
+      let v = stepOf slope w in
+      let q = fewer n k (goingOf limit v) v refl (omega arith) (omega arith) in
+      record { after = suc (q .after); in-time = omega (arith, q .in-time); ended = q .ended }
+
+  -- no more steps than allowed
+  at-most : (n : ℕ) (going : Bool) (w : Walk) → walkFrom slope limit n going w .steps ≤ w .steps + n
+  unfolding walkFrom stepOf
+  at-most zero going w = omega arith
+  at-most (suc n) false w = omega arith
+  at-most (suc n) true w = let v = stepOf slope w in omega (arith, at-most n (goingOf limit v) v)
+
+pub within-allowance : (s : Start) (allowance : ℕ) → walkOf s allowance .steps ≤ allowance
+unfolding walkOf startWalk
+within-allowance s n = let w = startWalk (s .z) in omega (arith, at-most (s .slope) (s .limit) n (goingOf (s .limit) w) w)
+
+pub fewer-steps : FewerSteps
+unfolding walkOf startWalk
+fewer-steps s n l =
+    let w = startWalk (s .z) in
+    let going = goingOf (s .limit) w in
+    fewer (s .slope) (s .limit) n (walkFrom (s .slope) (s .limit) n going w .steps) going w refl l (omega arith)
 
 ends-same : (s : Start) (a b : ℕ) → a ≤ b → EndsWithin s a → walkOf s a ≡ walkOf s b
 unfolding walkOf

@@ -1,7 +1,7 @@
 -- Document 01, "Walks": when a walk ends by itself within an allowance, and what two allowances have to do with it. Definitions and claims;
 -- `proofs/WalkAllowances.antt` proves them.
 use lib.Ieee.{Float}
-use Prim.Native.Nat.{ℕ, zero, suc, _≤_, min}
+use Prim.Native.Nat.{ℕ, zero, suc, _≤_, _<_, min}
 use mathlib.Core.Path.{_≡_}
 use mathlib.Core.Bool.{false}
 use mathlib.Core.Logic.{_⊎_, _↔_}
@@ -36,3 +36,7 @@ pub record TwoAllowances (s : Start) (a b : ℕ) : Type 0 where
 
 abbrev pub AllowancesOfWalk : Type 0
 AllowancesOfWalk = (s : Start) (a b : ℕ) → TwoAllowances s a b
+
+-- What one run tells: a walk whose steps are fewer than its allowance ends by itself within that many.
+abbrev pub FewerSteps : Type 0
+FewerSteps = (s : Start) (allowance : ℕ) → walkOf s allowance .steps < allowance → EndsWithin s (walkOf s allowance .steps)

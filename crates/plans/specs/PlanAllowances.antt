@@ -1,11 +1,11 @@
--- Document 01, "Walks": what two allowances have to do with the slots of any plans. Definition and claim; `proofs/PlanAllowances.antt` proves it.
-use Prim.Native.Nat.{ℕ}
+-- Document 01, "Walks": what two allowances have to do with the slots of any plans. Definitions and claims; `proofs/PlanAllowances.antt` proves them.
+use Prim.Native.Nat.{ℕ, _≤_, _<_}
 use mathlib.Core.Path.{_≡_}
 use mathlib.Core.List.{List, [], _∷_}
 use mathlib.Core.Logic.{_↔_}
 use Rattle.newton.specs.WalkAllowances.{EqualOrEnds}
 use Rattle.newton.specs.declared.walk.Start.{Start}
-use Rattle.plans.specs.Plans.{slotsOf, walksIn, stepsOf}
+use Rattle.plans.specs.Plans.{slotsOf, walksIn, stepsOf, stepsAt, walksAt}
 use Rattle.plans.specs.declared.plan.Plan.{Plan}
 
 -- for each walk, the allowances a and b are equal or it ends by itself within the smaller
@@ -21,3 +21,14 @@ pub record PlansAllowances (ps : List Plan) (a b : ℕ) : Type 0 where
 
 abbrev pub AllowancesOfPlans : Type 0
 AllowancesOfPlans = (ps : List Plan) (a b : ℕ) → PlansAllowances ps a b
+
+-- What step counts tell: those of one slot are equal exactly when the allowances are equal or its walk ends by itself within the smaller; and where each
+-- count is below a, that holds of every walk for exactly those allowances b that are at least each count.
+pub record StepsTell (ps : List Plan) (a b : ℕ) : Type 0 where
+  pub of-slot : (i : ℕ) → (stepsAt i (slotsOf a ps) ≡ stepsAt i (slotsOf b ps)) ↔ AllEqualOrEnd a b (walksAt i ps)
+  pub of-one-run :
+      ((i : ℕ) → stepsAt i (slotsOf a ps) < a)
+      → AllEqualOrEnd a b (walksIn ps) ↔ ((i : ℕ) → stepsAt i (slotsOf a ps) ≤ b)
+
+abbrev pub StepsOfPlans : Type 0
+StepsOfPlans = (ps : List Plan) (a b : ℕ) → StepsTell ps a b

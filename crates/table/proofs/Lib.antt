@@ -3,4 +3,5 @@ mod Widths
 mod Laws
 pub mod ReplyLengths
 pub mod CommandAllowances
+pub mod Steps
 pub mod StatusTen

@@ -3,4 +3,5 @@ pub mod Rows
 pub mod Table
 pub mod Turns
 pub mod CommandAllowances
+pub mod Steps
 pub mod StatusTen

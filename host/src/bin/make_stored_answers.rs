@@ -1,4 +1,5 @@
-//! Makes the stored answers, and the example job with its replies and what a host program says of them, from document 01's rules and the reference.
+//! Makes the stored answers, and the example job with its replies and what a host program and `finder list` say of them, from document 01's rules
+//! and the reference.
 //!
 //! `make_stored_answers [--check]`, run in the repository's root, writes the files; with `--check` it writes nothing, and fails unless those that are
 //! there are the same.
@@ -7,14 +8,18 @@ use std::env;
 use std::process::ExitCode;
 
 #[cfg(reference)]
-fn files() -> Result<[(&'static str, Vec<u8>); 4], String> {
+fn files() -> Result<[(&'static str, Vec<u8>); 7], String> {
     let stored = host::stored_answers::make()?;
     println!("make_stored_answers: {stored}");
+    let [csv, json] = host::example::tables();
     Ok([
         ("crates/stored_answers/stdin", stored.bytes),
         ("examples/field_of_view.job", host::example::job()),
         ("examples/field_of_view.reply", host::example::replies()),
         ("examples/field_of_view.points", host::example::points()),
+        ("examples/field_of_view.list", host::example::list()),
+        ("examples/field_of_view.csv", csv),
+        ("examples/field_of_view.json", json),
     ])
 }
 

@@ -1,11 +1,11 @@
-//! What examples/host.c must say of replies, worked out from the reference's and not from bytes.
+//! What examples/host.c must say of replies, worked out from the reference's and not from bytes; and the words that listings share with it.
 
 use crate::commands::{ALLOWANCE, ARC, EQUATORIAL_CONE, PARALLEL, POLAR_CONE, PRECISION};
 use crate::reference::Slot;
 use crate::rules::{Content, Reply};
 
-const FOUND: u8 = 3;
-const SLOTS: [&str; 5] = [
+pub const FOUND: u8 = 3;
+pub const SLOTS: [&str; 5] = [
     "south cap, first",
     "south cap, second",
     "equator",
@@ -57,8 +57,9 @@ fn name(code: u8) -> &'static str {
     }
 }
 
-fn kind(slot: &Slot) -> &'static str {
+pub fn kind(slot: &Slot) -> &'static str {
     match slot.kind {
+        0 => "no such piece",
         1 => "no walk",
         2 => "height rejected",
         FOUND => "found",
@@ -68,7 +69,7 @@ fn kind(slot: &Slot) -> &'static str {
     }
 }
 
-fn reason(status: u8) -> &'static str {
+pub fn reason(status: u8) -> &'static str {
     match status {
         0 => "accepted",
         6 => "precision or allowance is not set",

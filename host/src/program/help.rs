@@ -1,0 +1,28 @@
+//! Help pages, and the version.
+
+use super::stop::Stop;
+use super::subcommands;
+use std::ffi::OsString;
+
+pub const OVERVIEW: &str = include_str!("help/finder.txt");
+pub const VERSION: &str = concat!(
+    "finder ",
+    env!("CARGO_PKG_VERSION"),
+    " (Rennaglyph)\n",
+    env!("FINDER_KIT"),
+    "\n"
+);
+
+/// The page of a subcommand, or the overview.
+pub fn page(arguments: &[OsString]) -> Result<&'static str, Stop> {
+    let name = match arguments {
+        [] => return Ok(OVERVIEW),
+        [name] => name.to_string_lossy(),
+        _ => return Err(Stop::Usage("help takes one subcommand".to_string())),
+    };
+    match subcommands::find(&name) {
+        Some(subcommand) => Ok(subcommand.page),
+        None if name == "help" => Ok(OVERVIEW),
+        None => Err(Stop::Usage(subcommands::unknown(&name))),
+    }
+}

@@ -1,0 +1,207 @@
+//! What texts are taken, and which bytes they give.
+
+use crate::process::finder;
+use std::f64::consts::PI;
+
+fn written(text: &str) -> Vec<u8> {
+    finder(&["write"], text.as_bytes()).done()
+}
+
+/// The bytes of a command.
+fn bytes(code: u8, floats: &[f64], bytes: &[u8]) -> Vec<u8> {
+    let floats = floats.iter().flat_map(|x| x.to_le_bytes());
+    [code]
+        .into_iter()
+        .chain(floats)
+        .chain(bytes.iter().copied())
+        .collect()
+}
+
+const PLAIN: &str = "precision 1e-9\nallowance 20\narc 0.1 0.2 0.35 0.25\nend\n";
+
+#[test]
+fn every_command() {
+    let text = "precision 1e-9\nallowance 20\narc 0.10 +0.20 0.35 .25\ncone-in-equator 0.3 0.1 0.05 north\n\
+                cone-in-cap 0.8 0.4 0.7 5e-2 west south\nparallel 0.1 0.2 0.3 0.9 0.5\nend\n";
+    let job = [
+        bytes(1, &[1e-9], &[]),
+        bytes(2, &[], &[20]),
+        bytes(3, &[0.1, 0.2, 0.35, 0.25], &[]),
+        bytes(4, &[0.3, 0.1, 0.05], &[1]),
+        bytes(5, &[0.8, 0.4, 0.7, 0.05], &[0, 0]),
+        bytes(6, &[0.1, 0.2, 0.3, 0.9, 0.5], &[]),
+        bytes(0, &[], &[]),
+    ];
+    assert_eq!(written(text), job.concat());
+}
+
+#[test]
+fn line_ends_marks_comments_and_blanks() {
+    let job = written(PLAIN);
+    let variants = [
+        PLAIN.replace('\n', "\r\n"),
+        format!("\u{FEFF}{PLAIN}"),
+        format!("\u{FEFF}# a comment\r\n{PLAIN}"),
+        PLAIN.replace(' ', "\t \t"),
+        PLAIN.replace('\n', " \t # a comment: ½ # more\n\n"),
+        PLAIN.replace("arc", "  arc"),
+        PLAIN.replace("20\n", "20#none\n"),
+        PLAIN.trim_end().to_string(),
+        PLAIN.trim_end().replace('\n', "\r\n") + "\r",
+        format!("{PLAIN}\n# after the end\n \t\n"),
+        format!("radians\n{PLAIN}"),
+    ];
+    for text in variants {
+        assert_eq!(written(&text), job, "{text:?}");
+    }
+}
+
+#[test]
+fn degrees_are_for_angles_alone() {
+    let text = "degrees\nprecision 90\narc 90 -45 360 1e-3\ncone-in-equator 90 45 1 1\ncone-in-cap 90 30 45 1 east 0\nparallel 10 20 30 40 0.5\n\
+                radians\narc 90 -45 360 1e-3\ndegrees\narc bits:3FF0000000000000 1 bits:7ff4000000000001 -0\nend\n";
+    let degree = PI / 180.0;
+    let nan = f64::from_bits(0x7FF4_0000_0000_0001);
+    let job = [
+        bytes(1, &[90.0], &[]),
+        bytes(3, &[90.0, -45.0, 360.0, 1e-3].map(|x| x * degree), &[]),
+        bytes(4, &[90.0, 45.0, 1.0], &[1]),
+        bytes(5, &[90.0, 30.0 * degree, 45.0, 1.0], &[1, 0]),
+        bytes(
+            6,
+            &[
+                10.0 * degree,
+                20.0 * degree,
+                30.0 * degree,
+                40.0 * degree,
+                0.5,
+            ],
+            &[],
+        ),
+        bytes(3, &[90.0, -45.0, 360.0, 1e-3], &[]),
+        bytes(3, &[1.0, degree, nan, -0.0], &[]),
+        bytes(0, &[], &[]),
+    ];
+    assert_eq!(written(text), job.concat());
+}
+
+#[test]
+fn bits_and_numbers_for_flags() {
+    let text = "precision bits:fff8DEADbeef0001\ncone-in-cap 0 0 0 1 255 2\nend\n";
+    let job = [
+        bytes(1, &[f64::from_bits(0xFFF8_DEAD_BEEF_0001)], &[]),
+        bytes(5, &[0.0, 0.0, 0.0, 1.0], &[255, 2]),
+        vec![0],
+    ]
+    .concat();
+    assert_eq!(written(text), job);
+    let shown = "precision bits:FFF8DEADBEEF0001\ncone-in-cap 0 0 0 1 255 2\nend\n";
+    assert_eq!(finder(&["show"], &job).text(), shown);
+}
+
+#[test]
+fn shortest_decimals() {
+    let text = "precision 0.1000\nprecision 100\nprecision -0.0\nprecision 1e300\nprecision 5e-324\nprecision 123456789012345680\nprecision 0.30000000000000004\nend\n";
+    let shown = "precision 0.1\nprecision 100\nprecision -0\nprecision 1e300\nprecision 5e-324\nprecision 1.2345678901234568e17\nprecision 0.30000000000000004\nend\n";
+    assert_eq!(finder(&["show"], text.as_bytes()).text(), shown);
+}
+
+/// Each status in words, 0 with what is set and found.
+#[test]
+fn listed() {
+    let text = "arc 0 0 1 1\nprecision bits:7FF0000000000000\nprecision 1e-9\nallowance 1\narc 2.3275 0.5101 2.0596 0.7856\n\
+                cone-in-equator 0.276 0.199 0.1 7\ncone-in-equator 0.276 2 0.1 north\narc 0 0.8 3.141592653589793 -0.8\nend\n";
+    let listing = "   1  arc 0 0 1 1
+          refused, status 6: precision or allowance is not set
+   2  precision bits:7FF0000000000000
+          refused, status 7: a float isn't finite
+   3  precision 1e-9
+          set
+   4  allowance 1
+          set
+   5  arc 2.3275 0.5101 2.0596 0.7856
+          equator: found after 1 step at longitude 2.2111";
+    let listed = finder(&["list"], text.as_bytes()).text();
+    let start: String = listed.chars().take(listing.len()).collect();
+    assert_eq!(start, listing);
+    let end = "   6  cone-in-equator 0.276 0.199 0.1 7
+          refused, status 8: a north or east byte is neither 0 nor 1
+   7  cone-in-equator 0.276 2 0.1 north
+          refused, status 9: an operand is outside its range
+   8  arc 0 0.8 3.141592653589793 -0.8
+          refused, status 10: the arc can't be split
+";
+    assert!(listed.ends_with(end), "{listed}");
+}
+
+/// Each kind without a point in words, with its steps where a walk has been begun.
+#[test]
+fn listed_without_points() {
+    let table = [
+        (
+            0,
+            "arc 0 1.5707963267948966 3.141592653589793 0.8",
+            "no such piece",
+        ),
+        (20, "arc 0.1 0 0.3 0", "equator: no walk"),
+        (
+            0,
+            "cone-in-equator 0.6666666666666666 0.1 0.05 north",
+            "height rejected after 0 steps",
+        ),
+        (
+            20,
+            "cone-in-equator 0.6666666666666666 0.1 0.05 north",
+            "height rejected after 1 step",
+        ),
+        (
+            20,
+            "cone-in-equator 0.28 0.5 0.39 north",
+            "height rejected after 6 steps",
+        ),
+        (20, "parallel 0 0 1 0.1 0.9", "height not between the ends"),
+        (
+            20,
+            "parallel 0 0.8 3.141592653589793 -0.8 0.5",
+            "neither root passes",
+        ),
+        (
+            20,
+            "arc 1.2842388656527222 -0.2678237116066448 1.2991747463510848 -0.25479556955392063",
+            "equator: neither root passes after 4 steps",
+        ),
+    ];
+    for (allowance, command, words) in table {
+        let text = format!("precision 1e-9\nallowance {allowance}\n{command}\nend\n");
+        let listed = finder(&["list"], text.as_bytes()).text();
+        let expected = format!("          set\n   3  {command}\n          {words}\n");
+        assert!(listed.ends_with(&expected), "{listed}");
+    }
+}
+
+#[test]
+fn listed_in_degrees() {
+    let text = "degrees\nprecision 1e-9\nallowance 20\narc 90 bits:7FF0000000000000 45 -30\ncone-in-equator 0.276 0.199 0.1 north\nparallel 30 0 60 45 0.5\nend\n";
+    let listing = "angles in degrees
+   1  precision 1e-9
+          set
+   2  allowance 20
+          set
+   3  arc 90.0000000000 bits:7FF0000000000000 45.0000000000 -30.0000000000
+          refused, status 7: a float isn't finite
+   4  cone-in-equator 0.276 0.199 0.1 north
+          found after 5 steps at height 0.2712348311075476
+   5  parallel 30.0000000000 0.0000000000 60.0000000000 45.0000000000 0.5
+          found at longitude ";
+    let listed = finder(&["list", "--degrees"], text.as_bytes()).text();
+    let rest = listed.strip_prefix(listing).expect(&listed);
+    // Where sin(lat) is a half the latitude is 30 degrees, and the longitude lies on the great circle.
+    let (lon, lat) = rest.trim_end().split_once(", latitude ").expect(rest);
+    assert_eq!(lat, "30.0000000000");
+    let lon: f64 = lon.parse().expect(lon);
+    let expected = (30_f64.to_radians().tan() * 30_f64.to_radians().sin())
+        .asin()
+        .to_degrees()
+        + 30.0;
+    assert!((lon - expected).abs() < 1e-9, "{lon} is not {expected}");
+}
