@@ -89,7 +89,10 @@ fn says_how_far_it_is() {
     assert_eq!(run(&folder, again).text(), "<other><list><a  b><>");
     change(&folder, "touch -d '1 hour' host/src/new");
     assert_eq!(untimed(&run(&folder, "./finder list")), LINKING);
-    change(&folder, "rm host/src/new; touch -d '1 hour' crates/new");
+    change(
+        &folder,
+        "touch -d '1 hour ago' host/src/new; touch -d '1 hour' crates/new",
+    );
     assert_eq!(untimed(&run(&folder, "./finder list"))[0], PROVING);
 }
 
