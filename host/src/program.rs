@@ -53,7 +53,7 @@ fn begin(arguments: &[OsString]) -> Result<u8, Stop> {
         return Ok(USAGE);
     };
     match &*first.to_string_lossy() {
-        "help" | "--help" | "-h" => print(help::page(rest)?),
+        name if help::OF_HELP.contains(&name) => print(help::page(rest)?),
         "--version" | "-V" if rest.is_empty() => print(help::VERSION),
         "--version" | "-V" => Err(Stop::Usage("--version stands alone".to_string())),
         name => match subcommands::find(name) {

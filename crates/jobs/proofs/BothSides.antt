@@ -1,7 +1,7 @@
 -- Both sides of each "exactly when" (specs/BothSides.antt), each by its theorem; what it asks of the example is computed.
 use lib.Ieee.{Float, ofBits, ofInt, toBits, neg, add, sub, mul, div, lt, le, ne}
 use lib.ListN.{length, getD, length-replicate}
-use Prim.Native.Nat.{ℕ, zero, suc, _≤_, _<_}
+use Prim.Native.Nat.{ℕ, zero, suc, _≤_}
 use native.Mathlib.Omega.{arith}
 use mathlib.Core.Path.{_≡_, refl, sym, ap, _∙_}
 use mathlib.Core.Bool.{Bool, true, false, true≢false}
@@ -44,11 +44,11 @@ use Rattle.jobs.specs.Passes.{checkedOf}
 use Rattle.jobs.specs.declared.file.Checked.the-variants as check
 use Rattle.jobs.specs.Alike.{allowancesFrom, isAllowance, Alike}
 use Rattle.jobs.specs.TwoFiles.{Accepted, begunIn}
-use Rattle.jobs.specs.EachReply.{Told, told, toldIn, EachPair, no-pair, pair, OfEachPair, stepsTold}
+use Rattle.jobs.specs.EachReply.{Told, toldIn, EachPair, no-pair, pair, OfEachPair, stepsTold, Fewer}
 use Rattle.jobs.specs.BothSides.{radius, jobWith, walk, SidesOfWalk, SidesOfTwoFiles, ofPrecision, ofAllowance, ofCone, SidesOfReplies, room, SidesOfTwoRuns, fromSouthPole, ready, SidesOfStatusTen}
 use Rattle.jobs.proofs.Passes.{accepted-run}
 use Rattle.jobs.proofs.TwoFiles.{demand-3, demand-3-of-runs}
-use Rattle.jobs.proofs.EachReply.{reply-by-reply, slot-by-slot, one-run-tells}
+use Rattle.jobs.proofs.EachReply.{reply-by-reply, slot-by-slot, walks-ended, one-run-tells}
 
 -- ---- the walk
 goes-on : goingOf (walk .limit) (startWalk (walk .z)) ≡ true
@@ -143,7 +143,7 @@ at-most-1 : (i : ℕ) → stepsTold i (ofCone 2) ≤ 1
 at-most-1 zero = omega (arith, steps-of-cone 0)
 at-most-1 (suc i) = omega (arith, steps-of-cone (suc i))
 
-below-2 : (i : ℕ) → stepsTold i (ofCone 2) < 2
+below-2 : (i : ℕ) → Fewer i (ofCone 2)
 below-2 i = omega (arith, at-most-1 i)
 
 third : {P : Told → Told → Type 0} {t u v t′ u′ v′ : Told} → EachPair P (t ∷ u ∷ v ∷ []) (t′ ∷ u′ ∷ v′ ∷ []) → P v v′
@@ -165,6 +165,7 @@ sides-of-replies =
       equal-steps = steps 1 2 0 .1 (rw (plans 1) (ends, tt));
       unlike-steps = λ h. neither ((rw (plans 0) at (steps 0 1 0 .0 h)) .0);
       below = below-2;
+      ended = rw (plans 2) at (rw (replies 2) at (walks-ended (jobWith 2))) .1 .1 .0 0 (below-2 0);
       same-for-1 = tells 1 below-2 .1 at-most-1;
       not-for-0 = λ h. omega (arith, tells 0 below-2 .0 h 0, steps-of-cone 0);
     }

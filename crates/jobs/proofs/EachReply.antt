@@ -1,17 +1,14 @@
 -- Reply by reply, for any two job files that are alike: the claims of specs/EachReply.antt. Pair by pair of two lists of commands, at states that stay alike: the
 -- law of one command holds, its step bytes are the step counts of its slots, and what these tell is known of any plans.
-use Prim.Native.Nat.{ℕ, _≤_, _<_}
+use Prim.Native.Nat.{ℕ}
 use mathlib.Core.Path.{_≡_, refl, ap}
-use mathlib.Core.Logic.{_↔_}
 use mathlib.Core.List.{List, [], _∷_}
-use Rattle.plans.specs.Plans.{slotsOf, stepsAt, walksIn, walksAt}
-use Rattle.plans.specs.PlanAllowances.{AllEqualOrEnd}
-use Rattle.plans.proofs.PlanAllowances.{steps-of-plans}
+use Rattle.plans.specs.Plans.{slotsOf, stepsAt}
+use Rattle.plans.proofs.PlanAllowances.{ended-of-plans, steps-of-plans}
 use Rattle.table.specs.States.{unset, Allowance, allowanceOf}
-use Rattle.table.specs.Rows.{Work}
-use Rattle.table.specs.Turns.{plansIn, walksOf, replyOf}
+use Rattle.table.specs.Turns.{plansIn, plansOf, walksOf, replyOf}
 use Rattle.table.specs.CommandAllowances.{Like, LikeOperands}
-use Rattle.table.specs.Steps.{stepByte, plansOf}
+use Rattle.table.specs.Steps.{stepByte}
 use Rattle.table.specs.declared.state.State.{State}
 use Rattle.table.proofs.CommandAllowances.{command-allowances}
 use Rattle.table.proofs.Steps.{step-bytes}
@@ -20,7 +17,7 @@ use Rattle.commands.specs.TwoLists.{command, LikeCommands, none, one}
 use Rattle.commands.proofs.Last.{last-after}
 use Rattle.jobs.specs.Files.{commandsIn, fileOf, replyFile}
 use Rattle.jobs.specs.TwoFiles.{begunIn}
-use Rattle.jobs.specs.EachReply.{Told, told, toldFrom, repliesTold, begunTold, PartsOfFile, EachPair, no-pair, pair, OfEachPair, SameReply, ReplyByReply, codesTold, SameCodes, SameSteps, SlotBySlot, Tells, OneRunTells}
+use Rattle.jobs.specs.EachReply.{Told, told, toldFrom, repliesTold, begunTold, PartsOfFile, EachPair, no-pair, pair, OfEachPair, SameReply, ReplyByReply, codesTold, SameCodes, SameSteps, SlotBySlot, Ended, OfEach, WalksEnded, Tells, OneRunTells}
 use Rattle.jobs.proofs.Alike.{alike-commands}
 
 -- ---- the parts of a file
@@ -37,6 +34,17 @@ pub parts-of-file : PartsOfFile
 unfolding replyFile begunIn
 parts-of-file job =
     let cs = commandsIn (fileOf job) in record { of-replies = replies-told _ unset cs; of-walks = begun-told _ unset cs }
+
+-- ---- what one run tells of each walk
+ended : (s : State) (c : Command) → Ended (told (allowanceOf s) s c)
+ended s c i = rw (step-bytes s (c .code) (c .operands) i) (ended-of-plans (plansOf s (c .code) (c .operands)) (s .allowance) i)
+
+all-ended : (s : State) (cs : List Command) → OfEach Ended (toldFrom (allowanceOf s) s cs)
+all-ended s [] = tt
+all-ended s (c ∷ cs) = (ended s c, rw (last-after s c) (all-ended (leaves s c) cs))
+
+pub walks-ended : WalksEnded
+walks-ended job = all-ended unset (commandsIn (fileOf job))
 
 -- ---- a command in two files
 record Both (t u : Told) : Type 0 where

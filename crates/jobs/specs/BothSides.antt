@@ -1,8 +1,8 @@
--- One example on either side of each "exactly when": a walk, demand 3, of files and of replies, and status 10. `proofs/BothSides.antt` gets each by applying the theorem, so that what
--- it asks is met by something. Definitions and claims.
+-- One example on either side of each "exactly when": a walk, demand 3 of files and of replies, and status 10. `proofs/BothSides.antt` gets each by applying
+-- the theorem, so that what it asks is met by something. Definitions and claims.
 use lib.Ieee.{Float, neg}
 use lib.ListN.{replicate}
-use Prim.Native.Nat.{ℕ, _<_}
+use Prim.Native.Nat.{ℕ}
 use mathlib.Core.Path.{_≡_}
 use mathlib.Core.Bool.{false}
 use mathlib.Core.List.{List, [], _∷_, _++_}
@@ -13,16 +13,17 @@ use Rattle.newton.specs.Walks.{limitOf, walkOf}
 use Rattle.newton.specs.declared.slope.Slope.the-variants.{Equatorial}
 use Rattle.newton.specs.declared.walk.Start.{Start}
 use Rattle.words.specs.Words.{floatBytes}
+use Rattle.plans.specs.PlanAllowances.{AllEndWithin}
 use Rattle.special_points_finder.specs.Cones.{coneOfRadius}
 use Rattle.table.specs.States.{unset, noAllowance, setTo, givenOf, withPrecision, withAllowance}
 use Rattle.table.specs.Table.{rowOf}
 use Rattle.table.specs.Turns.{refusalOf, replyOf}
 use Rattle.table.specs.StatusTen.{statusByte}
 use Rattle.table.specs.declared.state.State.{State}
-use Rattle.jobs.specs.Files.{replyFile, runFile}
 use Rattle.commands.specs.TwoLists.{command}
+use Rattle.jobs.specs.Files.{replyFile, runFile}
 use Rattle.jobs.specs.TwoFiles.{begunIn, writtenBytes}
-use Rattle.jobs.specs.EachReply.{Told, told, toldIn, stepsTold}
+use Rattle.jobs.specs.EachReply.{Told, told, toldIn, stepsTold, Fewer}
 
 -- precision 1, this allowance, and one cone: z 0.5, z0 0.5, radius 1.5, its south point
 abbrev pub radius : Float
@@ -76,7 +77,8 @@ pub record SidesOfReplies : Type 0 where
   pub unlike : ofCone 0 .reply ≡ ofCone 1 .reply → ⊥
   pub equal-steps : stepsTold 0 (ofCone 1) ≡ stepsTold 0 (ofCone 2)
   pub unlike-steps : stepsTold 0 (ofCone 0) ≡ stepsTold 0 (ofCone 1) → ⊥
-  pub below : (i : ℕ) → stepsTold i (ofCone 2) < 2
+  pub below : (i : ℕ) → Fewer i (ofCone 2)
+  pub ended : AllEndWithin (stepsTold 0 (ofCone 2)) (walk ∷ [])
   pub same-for-1 : ofCone 2 .reply ≡ ofCone 1 .reply
   pub not-for-0 : ofCone 2 .reply ≡ ofCone 0 .reply → ⊥
 

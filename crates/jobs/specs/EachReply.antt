@@ -5,18 +5,19 @@ use mathlib.Core.Path.{_≡_}
 use mathlib.Core.Logic.{_↔_}
 use mathlib.Core.List.{List, [], _∷_, _++_}
 use Rattle.plans.specs.Plans.{walksIn, walksAt}
-use Rattle.plans.specs.PlanAllowances.{AllEqualOrEnd}
+use Rattle.plans.specs.PlanAllowances.{AllEqualOrEnd, AllEndWithin}
 use Rattle.plans.specs.declared.plan.Plan.{Plan}
 use Rattle.table.specs.States.{unset, Allowance, noAllowance}
-use Rattle.table.specs.Turns.{replyOf}
-use Rattle.table.specs.Steps.{stepByte, plansOf}
+use Rattle.table.specs.Turns.{replyOf, plansOf}
+use Rattle.table.specs.Steps.{stepByte}
 use Rattle.table.specs.declared.state.State.{State}
 use Rattle.commands.specs.Commands.{Command, leaves, lastAfter, Begun, eachWith}
 use Rattle.jobs.specs.Files.{commandsIn, fileOf, replyFile}
 use Rattle.jobs.specs.Alike.{Alike}
 use Rattle.jobs.specs.TwoFiles.{begunIn}
 
--- a command's reply, with the allowance of its walks, the operand of the last code 02 before it, and what it has for each slot before any walk
+-- a command's reply, with the allowance of its walks (the operand of the last code 02 before it; 0 where there is none) and what it has for each slot
+-- before any walk
 pub record Told : Type 0 where
   pub code : ℕ
   pub reply : List ℕ
@@ -93,10 +94,23 @@ SameSteps t u =
 abbrev pub SlotBySlot : Type 0
 SlotBySlot = OfEachPair SameSteps
 
--- What one run tells: where every step byte of a reply is below its allowance, each of its walks has ended by itself (`FewerSteps` of newton), and the
--- reply is the same for exactly those allowances that are at least each of its step bytes.
+-- What one run tells: a walk whose steps are fewer than its allowance ends by itself within that many,
+abbrev pub Fewer : ℕ → Told → Type 0
+Fewer i t = stepsTold i t < t .allowance
+
+abbrev pub Ended : Told → Type 0
+Ended t = (i : ℕ) → Fewer i t → AllEndWithin (stepsTold i t) (walksAt i (t .plans))
+
+abbrev pub OfEach : (Told → Type 0) → List Told → Type 0
+OfEach P [] = Unit {0}
+OfEach P (t ∷ ts) = P t × OfEach P ts
+
+abbrev pub WalksEnded : Type 0
+WalksEnded = (job : List ℕ) → OfEach Ended (toldIn job)
+
+-- and where that holds of every slot, the reply is the same for exactly those allowances that are at least each of its step bytes.
 abbrev pub Tells : Told → Told → Type 0
-Tells t u = ((i : ℕ) → stepsTold i t < t .allowance) → (t .reply ≡ u .reply) ↔ ((i : ℕ) → stepsTold i t ≤ u .allowance)
+Tells t u = ((i : ℕ) → Fewer i t) → (t .reply ≡ u .reply) ↔ ((i : ℕ) → stepsTold i t ≤ u .allowance)
 
 abbrev pub OneRunTells : Type 0
 OneRunTells = OfEachPair Tells

@@ -1,6 +1,6 @@
 -- For any plans and any two allowances: the claim of specs/PlanAllowances.antt. The law of two allowances of each walk is carried along the list of
 -- the plans; no case of the geometry enters.
-use Prim.Native.Nat.{ℕ, zero, suc, _≤_, _<_, min}
+use Prim.Native.Nat.{ℕ, zero, suc, _≤_, _<_}
 use native.Mathlib.Omega.{arith}
 use mathlib.Core.Path.{_≡_, refl, ap}
 use mathlib.Core.List.{List, [], _∷_}
@@ -13,7 +13,7 @@ use Rattle.answers.specs.Answers.{withoutWalk}
 use Rattle.plans.specs.declared.plan.Plan.{Plan}
 use Rattle.plans.specs.declared.plan.Plan.the-variants.{NoPiece, NoWalk, Begins}
 use Rattle.plans.specs.Plans.{slotAt, slotsOf, walksIn, stepsOf, stepsAt, walksAt}
-use Rattle.plans.specs.PlanAllowances.{AllEqualOrEnd, AllowancesOfPlans, StepsOfPlans}
+use Rattle.plans.specs.PlanAllowances.{AllEqualOrEnd, AllEndWithin, AllowancesOfPlans, EndedOfPlans, StepsOfPlans}
 
 module _ (a b : ℕ) where
   tell : (ps : List Plan) → stepsOf (slotsOf a ps) ≡ stepsOf (slotsOf b ps) → AllEqualOrEnd a b (walksIn ps)
@@ -44,6 +44,16 @@ slot-law a b [] (suc i) = (λ h. tt, λ m. refl)
 slot-law a b (p ∷ ps) zero =
     let l = plans-allowances (p ∷ []) a b in (λ h. l .steps-tell (ap (λ (n : ℕ). n ∷ []) h), λ m. ap (stepsAt 0) (l .law .1 m))
 slot-law a b (p ∷ ps) (suc i) = slot-law a b ps i
+
+-- fewer than allowed
+pub ended-of-plans : EndedOfPlans
+unfolding stepsOf slotsOf slotAt walksIn AllEndWithin
+ended-of-plans [] a zero l = tt
+ended-of-plans [] a (suc i) l = tt
+ended-of-plans (NoPiece ∷ ps) a zero l = tt
+ended-of-plans (NoWalk ∷ ps) a zero l = tt
+ended-of-plans (Begins s e ∷ ps) a zero l = (fewer-steps s a l, tt)
+ended-of-plans (p ∷ ps) a (suc i) l = ended-of-plans ps a i l
 
 -- no slot has more steps than allowed
 within : (n : ℕ) (ps : List Plan) (i : ℕ) → stepsAt i (slotsOf n ps) ≤ n

@@ -14,9 +14,10 @@ use Rattle.special_points_finder.specs.Arcs.{slotsAt}
 use Rattle.plans.specs.PlanAllowances.{AllEqualOrEnd}
 use Rattle.plans.proofs.PlanAllowances.{plans-allowances}
 use Rattle.table.specs.States.{Given, givenOf, Allowance, setTo, allowanceOf, withPrecision, withAllowance, Change, keeps, setsPrecision, setsAllowance, changed}
-use Rattle.table.specs.Rows.{Row, Work, refused, accepted, slots, cone, crossing}
+use Rattle.table.specs.Rows.{Row, fiveSlots, kindStepsZ, Work, refused, accepted, slots, cone, crossing}
 use Rattle.table.specs.Table.{rowOf, allowance}
 use Rattle.table.specs.Turns.{finiteFrom, flagsFrom, inRangeFrom, firstFailing, refusalOf, workOf, statusIn, replyIn, plansIn, leftIn, turnOf, answerBytes, replyBytes, replyOf, after, walksOf}
+use Rattle.table.specs.Steps.{stepBytes}
 use Rattle.table.specs.CommandAllowances.{Like, CommandInTwo, CommandAllowances, AllowanceAfter, NoneUnset}
 use Rattle.table.specs.declared.state.State.{State}
 use Rattle.table.proofs.Cases.{by-test}
@@ -29,9 +30,8 @@ module _ (code a b : ℕ) where
   tells (refused number) h = tt
   tells accepted h = tt
   tells (slots p) h =
-      let steps : List ℕ → List ℕ = λ l. getD l 3 0 ∷ getD l 21 0 ∷ getD l 39 0 ∷ getD l 57 0 ∷ getD l 75 0 ∷ [] in
-      plans-allowances (plansIn (slots p)) a b .steps-tell (ap steps h)
-  tells (cone p) h = plans-allowances (p ∷ []) a b .steps-tell (ap (λ (l : List ℕ). getD l 3 0 ∷ []) h)
+      plans-allowances (plansIn (slots p)) a b .steps-tell (ap (stepBytes fiveSlots) h)
+  tells (cone p) h = plans-allowances (p ∷ []) a b .steps-tell (ap (stepBytes kindStepsZ) h)
   tells (crossing x) h = tt
 
   same : (w : Work) → AllEqualOrEnd a b (walksIn (plansIn w)) → replyIn a w ≡ replyIn b w

@@ -24,7 +24,7 @@ setsAnAllowance (setsAllowance n) = true
 
 -- its answer is as wide as it says; walks begin only where the allowance is set; and only 02 changes the allowance
 pub record Law (code : ℕ) (r : Row) : Type 0 where
-  pub fits : (n : ℕ) (g : Given) (b : List ℕ) → Fits (replyIn n (r .work g b)) (r .answerWidth)
+  pub fits : (n : ℕ) (g : Given) (b : List ℕ) → Fits (replyIn n (r .work g b)) (r .answer .width)
   pub settled : (g : Given) (b : List ℕ) → g .allowed ≡ false → r .needs g ≡ 0 → plansIn (r .work g b) ≡ []
   pub keeps-allowance : eqb code 2 ≡ false → (b : List ℕ) → setsAnAllowance (r .change b) ≡ false
 

@@ -17,9 +17,9 @@ module _ (s : State) (code : ℕ) (b : List ℕ) where
   reply-fits =
       let r = rowOf code in
       let n = s .allowance in
-      by-test (λ (w : Work). Fits (replyIn n w) (r .answerWidth)) (eqb (refusalOf r (givenOf s) b) 0)
+      by-test (λ (w : Work). Fits (replyIn n w) (r .answer .width)) (eqb (refusalOf r (givenOf s) b) 0)
       (λ e. law code .fits n (givenOf s) b)
-      (λ e. fits-refused (refusalOf r (givenOf s) b) (r .answerWidth))
+      (λ e. fits-refused (refusalOf r (givenOf s) b) (r .answer .width))
 
 pub length-reply : ReplyLength
 unfolding replyOf replyBytes

@@ -30,7 +30,7 @@ operand-column code = at-code widthIn refl table code
 
 pub answer-column : (code : ℕ) → getD answers code 0 ≡ answerWidth code
 unfolding answerWidth rowOf precision allowance arc coneInEqr coneInPc parallel
-answer-column code = at-code (λ r. r .answerWidth) refl table code
+answer-column code = at-code (λ r. r .answer .width) refl table code
 
 pub widest-operands : (code : ℕ) → operandWidth code ≤ 40
 unfolding operandWidth widthIn precision allowance arc coneInEqr coneInPc parallel
@@ -40,4 +40,4 @@ widest-operands =
 pub widest-answer : (code : ℕ) → answerWidth code ≤ 90
 unfolding answerWidth precision allowance arc coneInEqr coneInPc parallel
 widest-answer =
-    by-row (λ n r. r .answerWidth ≤ 90) (lit≤ tt, (lit≤ tt, (lit≤ tt, (lit≤ tt, (lit≤ tt, (lit≤ tt, (lit≤ tt, tt))))))) (λ n. lit≤ tt)
+    by-row (λ n r. r .answer .width ≤ 90) (lit≤ tt, (lit≤ tt, (lit≤ tt, (lit≤ tt, (lit≤ tt, (lit≤ tt, (lit≤ tt, tt))))))) (λ n. lit≤ tt)

@@ -3,7 +3,7 @@ use lib.Dec.{leb}
 use lib.Ieee.{Float, neg, lt, le}
 use Prim.Native.Nat.{ℕ}
 use mathlib.Core.Bool.{Bool, true, _&&_}
-use mathlib.Core.List.{List}
+use mathlib.Core.List.{List, [], _∷_}
 use Rattle.angles.specs.Floats.{plusZero, one}
 use Rattle.angles.specs.Constants.{two, halfPi}
 use Rattle.answers.specs.declared.answer.Answer.{Answer}
@@ -45,12 +45,36 @@ pub data Work : Type 0 where
   -- kind, lon, lat
   crossing : Answer → Work
 
--- A row: float operands, each with its range (9); byte operands after them, each with what 8 asks of it; the bytes of the reply after code and
--- status; the number that refuses it by what is given (6), or 0; what it comes to, of what is given and the operands' bytes; and what it makes of the state.
+-- The "reply after code and status": how many bytes it has, and the places of the steps among them, in the order of its slots.
+pub record Form : Type 0 where
+  pub width : ℕ
+  pub steps : List ℕ
+
+abbrev pub form : ℕ → List ℕ → Form
+form width steps = record { width = width; steps = steps }
+
+-- "none"
+abbrev pub noAnswer : Form
+noAnswer = form 0 []
+
+-- "five slots"; "a slot is kind, steps (one byte each), lon, lat", so 18 bytes
+abbrev pub fiveSlots : Form
+fiveSlots = form 90 (1 ∷ 19 ∷ 37 ∷ 55 ∷ 73 ∷ [])
+
+-- "kind, steps, z"
+abbrev pub kindStepsZ : Form
+kindStepsZ = form 10 (1 ∷ [])
+
+-- "kind, lon, lat"
+abbrev pub kindLonLat : Form
+kindLonLat = form 17 []
+
+-- A row: float operands, each with its range (9); byte operands after them, each with what 8 asks of it; the reply after code and status; the
+-- number that refuses it by what is given (6), or 0; what it comes to, of what is given and the operands' bytes; and what it makes of the state.
 pub record Row : Type 0 where
   pub floats : List (Float → Bool)
   pub flags : List (ℕ → Bool)
-  pub answerWidth : ℕ
+  pub answer : Form
   pub needs : Given → ℕ
   pub work : Given → List ℕ → Work
   pub change : List ℕ → Change

@@ -16,7 +16,7 @@ use Rattle.splits.specs.Splits.{splitOf}
 use Rattle.splits.specs.declared.split.Split.{Split}
 use Rattle.splits.specs.declared.split.Split.the-variants.{Into, Failed}
 use Rattle.table.specs.States.{needsSettings, keeps, setsPrecision, setsAllowance}
-use Rattle.table.specs.Rows.{Row, Work, refused, accepted, slots, cone, crossing, isHeight, isRadius, isLonModHalfPi, isFlag, anyFloat, anyByte, needsNothing}
+use Rattle.table.specs.Rows.{Row, noAnswer, fiveSlots, kindStepsZ, kindLonLat, Work, refused, accepted, slots, cone, crossing, isHeight, isRadius, isLonModHalfPi, isFlag, anyFloat, anyByte, needsNothing}
 
 -- "The ends in codes 03 and 06 are made by `from_sph_coo`" ("Points")
 abbrev pub firstEnd : List ℕ → Coo3D
@@ -36,7 +36,7 @@ end =
     record {
       floats = [];
       flags = [];
-      answerWidth = 0;
+      answer = noAnswer;
       needs = needsNothing;
       work = λ g b. accepted;
       change = λ b. keeps;
@@ -48,7 +48,7 @@ precision =
     record {
       floats = anyFloat ∷ [];
       flags = [];
-      answerWidth = 0;
+      answer = noAnswer;
       needs = needsNothing;
       work = λ g b. accepted;
       change = λ b. setsPrecision (floatAt b 0);
@@ -60,7 +60,7 @@ allowance =
     record {
       floats = [];
       flags = anyByte ∷ [];
-      answerWidth = 0;
+      answer = noAnswer;
       needs = needsNothing;
       work = λ g b. accepted;
       change = λ b. setsAllowance (getD b 0 0);
@@ -72,7 +72,7 @@ arc =
     record {
       floats = isLongitude ∷ isLatitude ∷ isLongitude ∷ isLatitude ∷ [];
       flags = [];
-      answerWidth = 90;
+      answer = fiveSlots;
       needs = needsSettings;
       work = λ g b. arcWork (splitOf (firstEnd b) (secondEnd b)) (g .precision);
       change = λ b. keeps;
@@ -84,7 +84,7 @@ coneInEqr =
     record {
       floats = isHeight ∷ isHeight ∷ isRadius ∷ [];
       flags = isFlag ∷ [];
-      answerWidth = 10;
+      answer = kindStepsZ;
       needs = needsSettings;
       work = λ g b. cone (conePlanInEqr (floatAt b 0) (floatAt b 1) (floatAt b 2) (eqb (getD b 24 0) 1) (g .precision));
       change = λ b. keeps;
@@ -96,7 +96,7 @@ coneInPc =
     record {
       floats = isHeight ∷ isLonModHalfPi ∷ isHeight ∷ isRadius ∷ [];
       flags = isFlag ∷ isFlag ∷ [];
-      answerWidth = 10;
+      answer = kindStepsZ;
       needs = needsSettings;
       work =
           λ g b. cone
@@ -110,7 +110,7 @@ parallel =
     record {
       floats = isLongitude ∷ isLatitude ∷ isLongitude ∷ isLatitude ∷ isHeight ∷ [];
       flags = [];
-      answerWidth = 17;
+      answer = kindLonLat;
       needs = needsNothing;
       work = λ g b. crossing (crossedOf (intersectParallel (vectOf (firstEnd b)) (vectOf (secondEnd b)) (floatAt b 4)));
       change = λ b. keeps;
@@ -138,4 +138,4 @@ unfoldable pub operandWidth : ℕ → ℕ
 operandWidth code = widthIn (rowOf code)
 
 unfoldable pub answerWidth : ℕ → ℕ
-answerWidth code = rowOf code .answerWidth
+answerWidth code = rowOf code .answer .width

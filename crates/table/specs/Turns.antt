@@ -108,15 +108,18 @@ Fits r width = length (answerBytes width r) ≡ width
 unfoldable pub replyBytes : ℕ → Reply → List ℕ
 replyBytes code r = code ∷ statusOf r ∷ answerBytes (answerWidth code) r
 
--- of a command, from its code and the bytes of its operands: the reply, the state left, and the walks that begin
+-- of a command, from its code and the bytes of its operands: the reply, the state left, what it has for each slot before any walk, and the walks that begin
 unfoldable pub replyOf : State → ℕ → List ℕ → List ℕ
 replyOf s code b = replyBytes code (turnOf (rowOf code) s b .reply)
 
 unfoldable pub after : State → ℕ → List ℕ → State
 after s code b = turnOf (rowOf code) s b .state
 
+abbrev pub plansOf : State → ℕ → List ℕ → List Plan
+plansOf s code b = plansIn (workOf (rowOf code) (givenOf s) b)
+
 unfoldable pub walksOf : State → ℕ → List ℕ → List Start
-walksOf s code b = walksIn (plansIn (workOf (rowOf code) (givenOf s) b))
+walksOf s code b = walksIn (plansOf s code b)
 
 -- Every reply is as long as the table says for its code, refused or not.
 abbrev pub ReplyLength : Type 0

@@ -6,11 +6,13 @@ use super::MOST_SHOWN;
 use crate::commands::ALLOWANCE;
 use crate::job_files::{file_of, Maker};
 use crate::outcomes::print_row;
+use crate::program::depends::alone::{self, Settled};
 use crate::program::depends::files::alike;
-use crate::program::depends::{alone, pair};
+use crate::program::depends::pair;
 use crate::program::replies::answer;
 use crate::random::Random;
 use crate::rules;
+use expected::Alone;
 
 const SEED: u64 = 0x4465_7065;
 /// The most bytes of a file that is compared with another, and of one that is run with every allowance.
@@ -28,18 +30,20 @@ struct Tally {
     wrong: u64,
 }
 
-const QUESTIONS: [&str; 5] = [
+const QUESTIONS: [&str; 6] = [
     "two files: alike",
     "two files: a reply with walks depends",
     "one file: 255 settles a reply with walks",
     "one file: its own allowance settles it",
     "one file: a larger allowance changes it",
+    "one file: its own is the 255 that doesn't settle it",
 ];
 const ALIKE: usize = 0;
 const DEPENDS: usize = 1;
 const BY_255: usize = 2;
 const BY_OWN: usize = 3;
 const CHANGES: usize = 4;
+const OWN_255: usize = 5;
 
 pub struct Depends {
     maker: Maker,
@@ -74,6 +78,7 @@ impl Depends {
         self.turns += 1;
         if self.turns % ALONE_EVERY == 0 {
             let file = self.maker.mixed(ALONE).bytes;
+            let file = with_others(&file, &mut self.maker.random);
             self.compare_alone(&file);
         }
     }
@@ -129,16 +134,24 @@ impl Depends {
                 self.unknown += 1;
                 continue;
             };
-            let same = report.settled == expected.settled && report.own == expected.own;
-            if expected.settled == alone::Settled::Always && same && report.own_settles() {
-                continue;
-            }
-            let by_255 = expected.settled != alone::Settled::NotBy255;
-            self.count(BY_255, by_255, same, &[file]);
-            let agrees = report.own_settles() == expected.own_settles;
-            self.count(BY_OWN, expected.own_settles, agrees, &[file]);
-            let agrees = report.changes == expected.changes;
-            self.count(CHANGES, expected.changes, agrees, &[file]);
+            self.compare_reply(file, report, &expected);
+        }
+    }
+
+    fn compare_reply(&mut self, file: &[u8], report: &alone::Reply, expected: &Alone) {
+        let same = report.settled == expected.settled && report.own == expected.own;
+        let by_own = report.own_settles() == expected.own_settles;
+        let changes = report.changes == expected.changes;
+        if expected.settled == Settled::Always && same && by_own && changes {
+            return;
+        }
+        let by_255 = expected.settled != Settled::NotBy255;
+        self.count(BY_255, by_255, same, &[file]);
+        self.count(BY_OWN, expected.own_settles, by_own, &[file]);
+        self.count(CHANGES, expected.changes, changes, &[file]);
+        if !by_255 {
+            let own_255 = expected.own == Some(u8::MAX);
+            self.count(OWN_255, own_255, by_own && changes, &[file]);
         }
     }
 

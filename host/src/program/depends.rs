@@ -1,5 +1,5 @@
 //! `finder depends`: which replies depend on the iteration allowance. Replies and step bytes are compared, and nothing else; what follows from
-//! them is proved in crates/jobs/proofs/EachReply.antt. The kind of a slot says whether a walk began there.
+//! them is proved in crates/jobs/proofs/EachReply.antt.
 
 pub mod alone;
 mod conclusions;
@@ -14,16 +14,13 @@ use super::arguments::{Arguments, ALLOWANCE, FORMAT};
 use super::input::{self, Input};
 use super::output::Output;
 use super::refusals::answered;
-use super::replies::{answer, Replied, Slot};
+use super::replies::{answer, Replied};
 use super::stop::Stop;
 use super::wording::quoted;
 use super::{DEPENDS, DONE};
 use files::{alike, with_allowance};
 use page::{File, Page};
 use std::ffi::OsStr;
-
-/// From this kind on, a slot has a walk; a parallel's answer has none.
-const WALK: u8 = 2;
 
 /// An input and the replies to it.
 type Answered = (Vec<Replied>, Input);
@@ -117,9 +114,4 @@ fn not_alike(a: &Input, b: &Input, place: usize) -> Stop {
     Stop::Usage(format!(
         "{a} and {b} are not alike: the first place is {place} ({difference})"
     ))
-}
-
-/// The steps of a slot's walk.
-fn walk_of(slot: &Slot) -> Option<u8> {
-    slot.steps.filter(|_| slot.kind >= WALK)
 }

@@ -4,7 +4,9 @@ use super::stop::Stop;
 use super::subcommands;
 use std::ffi::OsString;
 
-pub const OVERVIEW: &str = include_str!("help/finder.txt");
+/// How help is asked for.
+pub const OF_HELP: [&str; 3] = ["help", "--help", "-h"];
+pub const OVERVIEW: &str = include_str!("help.txt");
 pub const VERSION: &str = concat!(
     "finder ",
     env!("CARGO_PKG_VERSION"),
@@ -22,7 +24,7 @@ pub fn page(arguments: &[OsString]) -> Result<&'static str, Stop> {
     };
     match subcommands::find(&name) {
         Some(subcommand) => Ok(subcommand.page),
-        None if name == "help" => Ok(OVERVIEW),
+        None if OF_HELP.contains(&&*name) => Ok(OVERVIEW),
         None => Err(Stop::Usage(subcommands::unknown(&name))),
     }
 }

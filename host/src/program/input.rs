@@ -41,15 +41,23 @@ pub fn read(file: &OsStr, arguments: &Arguments) -> Result<Input, Stop> {
     from_text(name, &bytes)
 }
 
-fn looks_like_a_job(bytes: &[u8]) -> bool {
+pub fn looks_like_a_job(bytes: &[u8]) -> bool {
     bytes.contains(&0) || std::str::from_utf8(bytes).is_err()
+}
+
+/// By the mark at its start; no code is one of its bytes.
+pub fn is_utf_16(bytes: &[u8]) -> bool {
+    bytes.starts_with(b"\xFF\xFE") || bytes.starts_with(b"\xFE\xFF")
 }
 
 /// Reads a text; a job file is none.
 pub fn read_text(file: &OsStr) -> Result<Input, Stop> {
     let (name, bytes) = read_bytes(file)?;
     if bytes.contains(&0) {
-        let what = "holds a byte 00, as a job file does; `finder show` makes a text from one";
+        let what = match is_utf_16(&bytes) {
+            true => "is a text in UTF-16; texts are UTF-8",
+            false => "holds a byte 00, as a job file does; `finder show` makes a text from one",
+        };
         return Err(Stop::failed(format!("{name}: {what}")));
     }
     from_text(name, &bytes)

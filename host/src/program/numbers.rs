@@ -39,10 +39,14 @@ fn no_number(word: &str) -> String {
     format!("{word} is no number; a decimal such as 0.25 or {BITS} with 16 hex digits is expected{hint}")
 }
 
+fn as_bits(bits: u64) -> String {
+    format!("{BITS}{bits:016X}")
+}
+
 /// The shortest decimal that gives back the bits, or the bits of a NaN or an infinity.
 pub fn shown(bits: u64) -> String {
     if !f64::from_bits(bits).is_finite() {
-        return format!("{BITS}{bits:016X}");
+        return as_bits(bits);
     }
     let shown = format!("{:?}", f64::from_bits(bits));
     match shown.strip_suffix(".0") {
@@ -51,12 +55,11 @@ pub fn shown(bits: u64) -> String {
     }
 }
 
-/// In degrees, with ten decimals.
+/// In degrees, with ten decimals; the bits of an angle that has none.
 pub fn in_degrees(bits: u64) -> String {
-    let angle = f64::from_bits(bits);
-    if angle.is_finite() {
-        format!("{:.10}", angle.to_degrees())
-    } else {
-        shown(bits)
+    let degrees = f64::from_bits(bits).to_degrees();
+    match degrees.is_finite() {
+        true => format!("{degrees:.10}"),
+        false => as_bits(bits),
     }
 }

@@ -69,11 +69,14 @@ impl Target {
             force,
             bytes: Vec::new(),
         };
-        match fs::metadata(&target.path) {
+        match fs::metadata(name) {
             Ok(there) if !there.is_file() => {
                 Err(target.failed("is no regular file; leave -o out to write to standard output"))
             }
             Ok(_) if !force => Err(target.is_there()),
+            Err(error) if error.kind() != ErrorKind::NotFound => {
+                Err(target.failed(&reason(&error)))
+            }
             _ => Ok(target),
         }
     }

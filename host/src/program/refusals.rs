@@ -1,6 +1,6 @@
 //! What a refused job file is told.
 
-use super::input::Input;
+use super::input::{is_utf_16, looks_like_a_job, Input};
 use super::names::{self, Form};
 use super::replies::{self, Refusal, Replied};
 use super::stop::Stop;
@@ -26,10 +26,7 @@ fn stands(job: &[u8], Refusal { number, place }: Refusal) -> String {
     match (number, job.get(place)) {
         (1, _) => format!("it has {}", counted(job.len(), "byte")),
         (2, Some(byte)) => {
-            let text = match byte.is_ascii_graphic() {
-                true => " (a text would have to be UTF-8, without a byte 00)",
-                false => "",
-            };
+            let text = of_text(job, *byte);
             format!("byte 0x{byte:02X} stands there, after {}{text}", before())
         }
         (3, None) => format!("the file ends there without code 00, after {}", before()),
@@ -39,6 +36,19 @@ fn stands(job: &[u8], Refusal { number, place }: Refusal) -> String {
             format!("`end` stands before, with {after} after it")
         }
         _ => format!("the replies need {}", counted(place, "byte")),
+    }
+}
+
+/// What to do about a text that was taken for a job file, where a byte that is no code looks like one.
+fn of_text(job: &[u8], byte: u8) -> &'static str {
+    if is_utf_16(job) {
+        " (a text in UTF-16 begins so; texts are UTF-8)"
+    } else if !byte.is_ascii_graphic() {
+        ""
+    } else if looks_like_a_job(job) {
+        " (a text would have to be UTF-8, without a byte 00)"
+    } else {
+        " (without --job it is taken for a text)"
     }
 }
 

@@ -120,10 +120,11 @@ fn whole(number: impl ToString) -> Cell {
     Cell::Number(number.to_string())
 }
 
+/// With a point or an exponent: some readers of JSON take `-0` for a whole number, which has no sign.
 fn float(bits: u64) -> Cell {
-    let shown = numbers::shown(bits);
-    match f64::from_bits(bits).is_finite() {
-        true => Cell::Number(shown),
-        false => Cell::Text(shown),
+    let float = f64::from_bits(bits);
+    match float.is_finite() {
+        true => Cell::Number(format!("{float:?}")),
+        false => Cell::Text(numbers::shown(bits)),
     }
 }

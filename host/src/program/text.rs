@@ -139,7 +139,7 @@ fn miscounted(usage: &str, given: &[&str]) -> String {
 fn unknown(name: &str) -> String {
     let names = FORMS.iter().map(|form| form.name);
     let bytes = match name.contains(char::is_control) {
-        true => " (for a job file, give --job)",
+        true => " (a job file is shown by `finder show --job`)",
         false => "",
     };
     wording::unknown("command", name, names.chain([DEGREES, RADIANS])) + bytes

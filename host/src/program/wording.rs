@@ -14,12 +14,13 @@ pub fn unknown<'a>(what: &str, given: &str, names: impl Iterator<Item = &'a str>
     )
 }
 
-/// The nearest name, if at most two characters are to be put in, taken out or changed.
+/// The nearest name, if at most two characters and half the word are to be put in, taken out or changed.
 fn nearest<'a>(given: &str, names: &[&'a str]) -> Option<&'a str> {
     let given = given.to_lowercase();
     let distances = names.iter().map(|name| (distance(&given, name), *name));
     let (distance, name) = distances.min_by_key(|(distance, _)| *distance)?;
-    (distance <= 2).then_some(name)
+    let most = 2.min(given.chars().count() / 2);
+    (distance <= most).then_some(name)
 }
 
 /// Levenshtein's distance, row by row.

@@ -65,7 +65,7 @@ fn wrong_lines() {
         (
             "\u{1}\u{1B}[2J",
             format!(
-                "there is no command `\\u{{1}}\\u{{1b}}[2J`; {NAMES} (for a job file, give --job)"
+                "there is no command `\\u{{1}}\\u{{1b}}[2J`; {NAMES} (a job file is shown by `finder show --job`)"
             ),
         ),
         (

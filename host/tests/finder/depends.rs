@@ -2,6 +2,7 @@
 
 #[cfg(reference)]
 mod rules;
+mod sections;
 
 use super::process::{command, finder, repository, Ran};
 use host::commands::{Command as Job, EQUATORIAL_CONE};
@@ -97,8 +98,8 @@ fn a_smaller_allowance_settles_less() {
 
 #[test]
 fn a_walk_of_255_steps_is_not_settled() {
-    let expected = "An allowance of 255 does not settle command 3: a walk takes all 255 steps. Every other reply stays the same for every \
-                    allowance. This file's own allowances do not settle command 3.";
+    let expected = "An allowance of 255 does not settle command 3: of a walk of 255 steps the step byte can't tell whether it has ended. Every \
+                    other reply stays the same for every allowance. This file's own allowances do not settle command 3.";
     let at_255 = printed(&[&file("endless_255.job", &endless(255))], 3);
     assert!(at_255.ends_with(&format!("{expected}\n")), "{at_255}");
     assert!(
@@ -150,7 +151,7 @@ command  job              walk              allowance A  allowance B  steps A  s
 A: examples/field_of_view.job
 B: A with every allowance 8
 
-No reply differs between A and B.
+No reply differs between A and B. Where its two allowances differ, a reply is the same for every allowance from the smaller on.
 ";
     assert_eq!(printed(&[EXAMPLE, "--allowance", "8"], 0), none);
 }
@@ -245,100 +246,6 @@ fn a_closed_pipe() {
     }
 }
 
-/// As `sha256sum` prints it for the file.
-fn sum_of(path: &str) -> String {
-    let mut sum = Command::new("sha256sum");
-    let output = sum.current_dir(repository()).arg(path).output();
-    let output = output.expect("sha256sum can be run").stdout;
-    String::from_utf8_lossy(&output[..64]).into_owned()
-}
-
-#[test]
-fn a_section_for_the_form() {
-    let section = printed(&[EXAMPLE, "--format", "markdown"], 0);
-    let head = format!(
-        "## Which replies depend on the iteration allowance\n\n- Job file: `{EXAMPLE}`\n- SHA-256: `{}`\n- Allowances: 20 (command 2)\n",
-        sum_of(EXAMPLE)
-    );
-    assert!(section.starts_with(&head), "{section}");
-    let table = "\n\n| command | job | allowance | settled from |\n| ---: | --- | ---: | ---: |\n| 1 | precision | - | any |\n";
-    assert!(section.contains(table), "{section}");
-    assert!(
-        section.contains("\n| 12 | cone-in-cap | 20 | 8 |\n"),
-        "{section}"
-    );
-    for name in [
-        "`one-run-tells` in `crates/jobs/proofs/EachReply.antt`",
-        "`OneRunTells` in `crates/jobs/specs/EachReply.antt`",
-    ] {
-        assert!(section.contains(name), "{section}");
-    }
-    let version = finder(&["--version"], b"").text();
-    assert!(
-        !version.is_empty() && version.lines().all(|line| section.contains(line)),
-        "{section}"
-    );
-}
-
-#[test]
-fn a_section_for_two_files() {
-    let mut job = example();
-    job[OPERAND] = 4;
-    let other = file("section.job", &job);
-    let section = printed(&[EXAMPLE, &other, "--format", "markdown"], 3);
-    let head = format!(
-        "## Which replies depend on the iteration allowance\n\n- Job file A: `{EXAMPLE}`\n- SHA-256 of A: `{}`\n- Allowances of A: 20 \
-         (command 2)\n- Job file B: `{other}`\n- SHA-256 of B: `{}`\n- Allowances of B: 4 (command 2)\n",
-        sum_of(EXAMPLE),
-        sum_of(&other)
-    );
-    assert!(section.starts_with(&head), "{section}");
-    assert!(
-        section.contains("\n| 5 | arc | equator | 20 | 4 | 5 | 4 | yes |\n"),
-        "{section}"
-    );
-    assert!(
-        section.contains("\n4 of 14 replies differ between A and B: commands 5, 9, 11 and 12.\n"),
-        "{section}"
-    );
-    for name in [
-        "`reply-by-reply` and `slot-by-slot`",
-        "`ReplyByReply` and `SlotBySlot`",
-    ] {
-        assert!(section.contains(name), "{section}");
-    }
-}
-
-#[test]
-fn without_sha256sum_its_line_is_left_out() {
-    let with = printed(&[EXAMPLE, "--format", "markdown"], 0);
-    let mut finder = command();
-    let finder = finder
-        .current_dir(repository())
-        .env("PATH", "no such folder");
-    let output = finder
-        .args(["depends", EXAMPLE, "--format", "markdown"])
-        .output();
-    let without = output.expect("the program can be run").stdout;
-    let line = format!("- SHA-256: `{}`\n", sum_of(EXAMPLE));
-    assert_eq!(String::from_utf8_lossy(&without), with.replace(&line, ""));
-    assert_ne!(String::from_utf8_lossy(&without), with);
-}
-
-/// A text's section says whose SHA-256 it is; a name may have any characters.
-#[test]
-fn a_section_for_a_text() {
-    let text = fs::read(repository().join("examples/field_of_view.txt"));
-    let name = file("a `strange`\nname", &text.expect("the example can be read"));
-    let section = printed(&[&name, "--format", "markdown"], 0);
-    let head = format!(
-        "- Text: `` {} ``\n- SHA-256 of the job file that the text makes: `{}`\n",
-        name.replace('\n', "\\n"),
-        sum_of(EXAMPLE)
-    );
-    assert!(section.contains(&head), "{section}");
-}
-
 /// Of texts the lines are named too.
 #[test]
 fn texts_that_are_not_alike() {
@@ -356,29 +263,4 @@ fn texts_that_are_not_alike() {
          second (line 5))\n"
     );
     assert_eq!(said(&[&a, &b], 2), expected);
-}
-
-#[test]
-fn wrong_usage() {
-    for (arguments, expected) in [
-        (
-            &[EXAMPLE, "--allowance", "256"][..],
-            "`256` is no allowance; a whole number from 0 to 255 is",
-        ),
-        (
-            &[EXAMPLE, "--format", "csv"],
-            "`csv` is no format of depends; words and markdown are",
-        ),
-        (&["-", "-"], "standard input can be read only once"),
-        (
-            &[EXAMPLE, EXAMPLE, EXAMPLE],
-            "depends takes at most 2 files, and 3 are given",
-        ),
-        (
-            &[EXAMPLE, EXAMPLE, "--allowance", "3"],
-            "--allowance is for one file, which is compared with itself",
-        ),
-    ] {
-        assert_eq!(said(arguments, 2), format!("finder: {expected}\n"));
-    }
 }

@@ -37,16 +37,41 @@ fn bytes_and_texts_are_told_apart() {
     let message =
         "finder: job: holds a byte 00, as a job file does; `finder show` makes a text from one\n";
     folder.finder(&["write", "job"]).fails(1, message);
-    let message = "finder: text: refused under 2 at place 0: a command byte isn't in the table; byte 0x70 stands there, after 0 commands (a text would have to be UTF-8, without a byte 00)\n";
-    folder.finder(&["run", "--job", "text"]).fails(1, message);
+    folder
+        .finder(&["run", "--text", "--job", "text"])
+        .fails(2, "finder: --text and --job exclude each other\n");
+}
+
+/// What is said of a text that is taken for a job file.
+#[test]
+fn texts_taken_for_job_files() {
+    const REFUSED: &str = "refused under 2 at place 0: a command byte isn't in the table;";
+    let folder = Folder::new();
+    folder.write("text", TEXT);
+    let message = format!("finder: text: {REFUSED} byte 0x70 stands there, after 0 commands (without --job it is taken for a text)\n");
+    folder.finder(&["run", "--job", "text"]).fails(1, &message);
     folder.write("latin", b"# caf\xE9\nend\n");
+    let message = format!("finder: latin: {REFUSED} byte 0x23 stands there, after 0 commands (a text would have to be UTF-8, without a byte 00)\n");
+    folder.finder(&["run", "latin"]).fails(1, &message);
     folder.finder(&["run", "--text", "latin"]).fails(
         1,
         "finder: latin:1: a byte isn't UTF-8, in which texts are written\n",
     );
-    folder
-        .finder(&["run", "--text", "--job", "text"])
-        .fails(2, "finder: --text and --job exclude each other\n");
+    for (mark, bytes) in [
+        ("FF", u16::to_le_bytes as fn(u16) -> [u8; 2]),
+        ("FE", u16::to_be_bytes),
+    ] {
+        let units = format!("\u{FEFF}{TEXT}")
+            .encode_utf16()
+            .flat_map(bytes)
+            .collect::<Vec<u8>>();
+        folder.write("utf_16", units);
+        let message = format!("finder: utf_16: {REFUSED} byte 0x{mark} stands there, after 0 commands (a text in UTF-16 begins so; texts are UTF-8)\n");
+        folder.finder(&["list", "utf_16"]).fails(1, &message);
+        folder
+            .finder(&["write", "utf_16"])
+            .fails(1, "finder: utf_16: is a text in UTF-16; texts are UTF-8\n");
+    }
 }
 
 /// Under each number, with what stands at the place.
@@ -190,6 +215,9 @@ fn names_with_control_characters() {
     let row =
         "\n{\"file\": \"é\\u000a\\\"b\\\\\\u001b[31m\\u0009\\u0001\u{9f}'\", \"command\": 1, ";
     assert_eq!(list("json").matches(row).count(), 2);
+    folder.write("a\rb", "allowance 1\nend\n");
+    let csv = folder.finder(&["list", "--format", "csv", "a\rb"]).text();
+    assert!(csv.contains("\n\"a\rb\",1,0,2,"), "{csv}");
 }
 
 /// What the angles are in is said once, above the first listing, and not where there is none.

@@ -7,20 +7,21 @@ use std::os::unix::fs::{symlink, PermissionsExt};
 use std::process::Stdio;
 
 const TEXT: &str = "precision 1e-9\nallowance 20\narc 0.1 0.2 0.35 0.25\nend\n";
+const SUBCOMMANDS: [&str; 5] = ["write", "show", "run", "list", "depends"];
 const KEPT: &str = "is there already and is kept; --force replaces it";
 
 #[test]
 fn a_file_is_put_in_place() {
     let folder = Folder::new();
     folder.write("text", TEXT);
-    for (subcommand, place) in [("write", 0), ("show", 1), ("run", 2), ("list", 3)] {
+    for subcommand in SUBCOMMANDS {
         let expected = folder.finder(&[subcommand, "text"]).done();
-        let out = format!("out{place}");
+        let out = format!("out of {subcommand}");
         assert_eq!(folder.finder(&[subcommand, "text", "-o", &out]).done(), b"");
         assert_eq!(fs::read(folder.path(&out)).expect("it is there"), expected);
     }
     assert_eq!(folder.finder(&["show", "-o", "-", "text"]).text(), TEXT);
-    assert_eq!(folder.names(), ["out0", "out1", "out2", "out3", "text"]);
+    assert_eq!(folder.names().len(), 1 + SUBCOMMANDS.len());
 }
 
 #[test]
@@ -30,7 +31,7 @@ fn a_file_is_kept_unless_forced() {
     folder.write("out", "old");
     fs::set_permissions(folder.path("out"), fs::Permissions::from_mode(0o640))
         .expect("it can be changed");
-    for subcommand in ["write", "show", "run", "list"] {
+    for subcommand in SUBCOMMANDS {
         // Told before the input is read.
         for input in ["text", "none"] {
             folder
@@ -86,9 +87,14 @@ fn links_are_followed() {
         .expect("it is there")
         .is_symlink());
     symlink("circle", folder.path("circle")).expect("it can be made");
-    let ran = folder.finder(&["show", "text", "-o", "circle"]);
-    assert_eq!((ran.status, &*ran.out), (1, &b""[..]));
-    assert!(ran.err.starts_with("finder: circle: "), "{}", ran.err);
+    for force in [&[][..], &["--force"]] {
+        let ran = folder.finder(&[&["show", "text", "-o", "circle"][..], force].concat());
+        assert_eq!((ran.status, &*ran.out), (1, &b""[..]));
+        assert!(ran.err.starts_with("finder: circle: "), "{}", ran.err);
+    }
+    assert!(fs::symlink_metadata(folder.path("circle"))
+        .expect("it is there")
+        .is_symlink());
     assert_eq!(
         folder.names(),
         ["circle", "inner", "link", "link to link", "text"]
@@ -99,7 +105,7 @@ fn links_are_followed() {
 fn what_is_no_file_is_left() {
     let folder = Folder::new();
     folder.write("text", TEXT);
-    for target in ["/dev/null", "/dev/full", "."] {
+    for target in ["/dev/null", "/dev/full", "/dev/stdout", "."] {
         for force in [&[][..], &["--force"]] {
             let arguments = [&["run", "text", "-o", target][..], force].concat();
             let message = format!(
@@ -119,14 +125,14 @@ fn nothing_is_put_in_place_of_a_bad_input() {
     let folder = Folder::new();
     folder.write("text", TEXT);
     folder.write("bad", "arc\n");
-    for subcommand in ["write", "show", "run", "list"] {
+    for subcommand in SUBCOMMANDS {
         assert_eq!(folder.finder(&[subcommand, "bad", "-o", "out"]).status, 1);
-        assert_eq!(
-            folder.finder(&["list", "bad", "none", "-o", "out"]).status,
-            1
-        );
-        assert_eq!(folder.names(), ["bad", "text"]);
     }
+    for subcommand in ["list", "depends"] {
+        let arguments = [subcommand, "bad", "none", "-o", "out"];
+        assert_eq!(folder.finder(&arguments).status, 1);
+    }
+    assert_eq!(folder.names(), ["bad", "text"]);
     // Of several the good ones are listed.
     let ran = folder.finder(&["list", "bad", "text", "-o", "out"]);
     assert_eq!((ran.status, &*ran.out), (1, &b""[..]));
@@ -145,6 +151,7 @@ fn a_full_disk() {
         &["run"],
         &["list"],
         &["list", "--format", "json"],
+        &["depends"],
         &["help"],
         &["--version"],
     ] {

@@ -106,6 +106,24 @@ fn shortest_decimals() {
     assert_eq!(finder(&["show"], text.as_bytes()).text(), shown);
 }
 
+/// In tables a float has a point or an exponent, so that no reader takes it for a whole number: of those −0 has no sign.
+#[test]
+fn floats_of_tables() {
+    let text = "precision 1\nallowance 0\ncone-in-equator -0 1 1e-30 north\nend\n";
+    let json = finder(&["list", "--format", "json"], text.as_bytes()).text();
+    for member in [
+        "\"precision\": 1.0,",
+        "\"z\": -0.0,",
+        "\"z0\": 1.0, \"radius\": 1e-30, \"east\": null, \"north\": 1,",
+        "\"height\": -0.0}",
+    ] {
+        assert!(json.contains(member), "no {member} in {json}");
+    }
+    let csv = finder(&["list", "--format", "csv"], text.as_bytes()).text();
+    assert!(csv.contains(",-0.0,,1.0,1e-30,,1,0,"), "{csv}");
+    assert!(csv.ends_with(",-0.0\n"), "{csv}");
+}
+
 /// Each status in words, 0 with what is set and found.
 #[test]
 fn listed() {
@@ -181,7 +199,7 @@ fn listed_without_points() {
 
 #[test]
 fn listed_in_degrees() {
-    let text = "degrees\nprecision 1e-9\nallowance 20\narc 90 bits:7FF0000000000000 45 -30\ncone-in-equator 0.276 0.199 0.1 north\nparallel 30 0 60 45 0.5\nend\n";
+    let text = "degrees\nprecision 1e-9\nallowance 20\narc 90 bits:7FF0000000000000 45 -30\ncone-in-equator 0.276 0.199 0.1 north\nradians\narc 1e307 0 0 0\ndegrees\nparallel 30 0 60 45 0.5\nend\n";
     let listing = "angles in degrees
    1  precision 1e-9
           set
@@ -191,7 +209,9 @@ fn listed_in_degrees() {
           refused, status 7: a float isn't finite
    4  cone-in-equator 0.276 0.199 0.1 north
           found after 5 steps at height 0.2712348311075476
-   5  parallel 30.0000000000 0.0000000000 60.0000000000 45.0000000000 0.5
+   5  arc bits:7FAC7B1F3CAC7433 0.0000000000 0.0000000000 0.0000000000
+          refused, status 9: an operand is outside its range
+   6  parallel 30.0000000000 0.0000000000 60.0000000000 45.0000000000 0.5
           found at longitude ";
     let listed = finder(&["list", "--degrees"], text.as_bytes()).text();
     let rest = listed.strip_prefix(listing).expect(&listed);

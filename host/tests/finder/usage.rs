@@ -8,19 +8,23 @@ use std::process::{Command, Stdio};
 const SUBCOMMANDS: [&str; 5] = ["write", "show", "run", "list", "depends"];
 const ALL: &str = "there are help, write, show, run, list, depends";
 
+/// A page of help, from its place among the program's sources.
 fn page(name: &str) -> String {
-    let path = repository().join(format!("host/src/program/help/{name}.txt"));
+    let path = repository().join(format!("host/src/program/{name}.txt"));
     fs::read_to_string(path).expect("the page is there")
 }
 
 #[test]
 fn help() {
-    let overview = page("finder");
-    for arguments in [&["help"][..], &["--help"], &["-h"], &["help", "help"]] {
-        assert_eq!(finder(arguments, b"").text(), overview);
+    let overview = page("help");
+    for asked in ["help", "--help", "-h"] {
+        assert_eq!(finder(&[asked], b"").text(), overview);
+        for of_help in ["help", "--help", "-h"] {
+            assert_eq!(finder(&[asked, of_help], b"").text(), overview);
+        }
     }
     for name in SUBCOMMANDS {
-        let page = page(name);
+        let page = page(&format!("help/{name}"));
         assert!(page.starts_with(&format!("finder {name} ")));
         let lines = overview
             .lines()
@@ -48,7 +52,7 @@ fn pages_name_all_options() {
             .trim_end()
             .split_once("there are ")
             .expect("it names them");
-        let page = page(name);
+        let page = page(&format!("help/{name}"));
         let words = page.split([' ', ',', '\n', '[', ']', '`', ';', '=']);
         let mut named: Vec<&str> = words
             .filter(|word| word.len() > 1 && word.starts_with('-'))

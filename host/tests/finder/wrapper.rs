@@ -8,12 +8,14 @@ use std::process::Command;
 const SETUP: &str = r#"
 mkdir -p bin basic logs other crates host/build host/src/program
 cp "$0/finder" "$0/crates.txt" .
-cp -r "$0/host/src/program/help" host/src/program
-touch host/build.rs host/Cargo.toml host/Cargo.lock
+cp -r "$0/host/src/program/help" "$0/host/src/program/help.txt" host/src/program
+cp "$0/host/Cargo.toml" host
+touch host/build.rs host/Cargo.lock
 for tool in bash cat chmod dirname find grep mkdir mktemp readlink rm sed tail touch; do ln -s "$(command -v "$tool")" basic; done
 tool() { { echo '#!/usr/bin/env bash'; cat; } > "bin/$1"; chmod +x "bin/$1"; }
 tool cc < /dev/null
 tool rt << 'END'
+[[ $* != version ]] || { echo "a kit"; exit; }
 [[ $* == "staticlib finder" ]] || exit 1
 while IFS=: read -r crate _ && [[ $crate != finder ]]; do
     echo "rt: $crate checked"
@@ -102,11 +104,12 @@ fn answers_before_it_builds() {
     let folder = copy();
     change(&folder, "rm bin/*");
     let pages =
-        ["finder", "list"].map(|name| folder.path(&format!("host/src/program/help/{name}.txt")));
+        ["help", "help/list"].map(|name| folder.path(&format!("host/src/program/{name}.txt")));
     let [overview, list] = pages.map(|page| fs::read_to_string(page).expect("it is there"));
     for (line, page) in [
         ("./finder help", &overview),
         ("./finder -h", &overview),
+        ("./finder help --help", &overview),
         ("./finder help list", &list),
         ("./finder list a --help", &list),
     ] {
@@ -115,6 +118,7 @@ fn answers_before_it_builds() {
     run(&folder, "./finder").fails(2, &overview);
     for (line, shown) in [
         ("./finder help lst", "lst"),
+        ("./finder finder", "finder"),
         ("./finder ./list", "./list"),
         ("./finder $'a\nb'", "a?b"),
     ] {
@@ -123,7 +127,22 @@ fn answers_before_it_builds() {
         );
         run(&folder, line).fails(2, &message);
     }
+    run(&folder, "./finder help list run").fails(2, "finder: help takes one subcommand\n");
     run(&folder, "./finder list >&-").fails(1, CLOSED);
+}
+
+#[test]
+fn says_its_version_before_it_builds() {
+    let folder = copy();
+    let version = concat!(
+        "finder ",
+        env!("CARGO_PKG_VERSION"),
+        " (Rennaglyph)\nkit: a kit\n"
+    );
+    for option in ["--version", "-V"] {
+        assert_eq!(run(&folder, &format!("./finder {option}")).text(), version);
+    }
+    run(&folder, "./finder --version list").fails(2, "finder: --version stands alone\n");
 }
 
 #[test]

@@ -1,7 +1,7 @@
 //! One accepted job file: from which allowance on each reply no longer changes.
 
+use super::accepted;
 use super::files::{allowances, with_allowance};
-use super::{accepted, walk_of};
 use crate::commands::Command;
 use crate::program::replies::Replied;
 
@@ -17,7 +17,7 @@ pub struct Reply {
 
 #[derive(Clone, Copy, Debug, PartialEq)]
 pub enum Settled {
-    /// It begins no walk.
+    /// No step is taken, whatever the allowance.
     Always,
     /// The least allowance from which on it is the same.
     From(u8),
@@ -36,8 +36,8 @@ impl Reply {
     }
 }
 
-/// Runs an accepted file, which has these replies, with every allowance 255: the greatest step byte of a reply's walks, if below 255, is the
-/// least allowance that settles it.
+/// Runs an accepted file, which has these replies, with every allowance 255: the greatest step byte of a reply, if below 255, is the least
+/// allowance that settles it.
 pub fn settle(job: &[u8], replies: &[Replied]) -> Vec<Reply> {
     let own = allowances(replies.iter().map(|reply| reply.command));
     let with_255 = accepted(&with_allowance(job, u8::MAX));
@@ -45,8 +45,8 @@ pub fn settle(job: &[u8], replies: &[Replied]) -> Vec<Reply> {
     let settled = settled.map(|((reply, own), with_255)| Reply {
         command: reply.command,
         own,
-        settled: match with_255.slots().iter().filter_map(walk_of).max() {
-            None => Settled::Always,
+        settled: match with_255.slots().iter().filter_map(|slot| slot.steps).max() {
+            None | Some(0) => Settled::Always,
             Some(u8::MAX) => Settled::NotBy255,
             Some(steps) => Settled::From(steps),
         },

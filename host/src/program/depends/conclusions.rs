@@ -14,7 +14,8 @@ pub fn of_pair(replies: &[pair::Reply]) -> String {
     let count = replies.len();
     let differ = places_of(replies, |reply| reply.differs);
     match differ.len() {
-        0 => "No reply differs between A and B.".to_string(),
+        0 => "No reply differs between A and B. Where its two allowances differ, a reply is the same for every allowance from the smaller on."
+            .to_string(),
         1 => format!(
             "1 of {count} replies differs between A and B: {}.",
             listed(&differ)
@@ -49,7 +50,9 @@ fn of_all(replies: &[alone::Reply]) -> String {
         _ => format!(" Every other reply stays the same for every allowance{from}."),
     };
     let listed = listed(&open);
-    format!("An allowance of 255 does not settle {listed}: a walk takes all 255 steps.{others}")
+    format!(
+        "An allowance of 255 does not settle {listed}: of a walk of 255 steps the step byte can't tell whether it has ended.{others}"
+    )
 }
 
 /// What holds for the file's own allowances.

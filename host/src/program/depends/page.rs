@@ -30,7 +30,7 @@ const HEADING: &str = "Which replies depend on the iteration allowance";
 const ONE_RUN: &str = "This rests on the theorem `one-run-tells` in `crates/jobs/proofs/EachReply.antt`, which proves `OneRunTells` in \
 `crates/jobs/specs/EachReply.antt`: where every step byte of a reply is below its allowance, the reply in any job file that is alike outside \
 the operands of code 02 is the same exactly when the allowance there is at least the greatest of these step bytes. The step bytes are those \
-of a run with every allowance 255. That a reply without a walk is the same for any allowance is in `reply-by-reply` of the same files.";
+of a run with every allowance 255. A command that no allowance comes before has the same reply in all these files, by `reply-by-reply` there.";
 const TWO_RUNS: &str = "This rests on the theorems `reply-by-reply` and `slot-by-slot` in `crates/jobs/proofs/EachReply.antt`, which prove \
 `ReplyByReply` and `SlotBySlot` in `crates/jobs/specs/EachReply.antt`: of two accepted job files, alike byte for byte outside the operands of \
 code 02, the replies to a command are equal exactly when each walk that it begins has the same allowance in both or ends by itself within \

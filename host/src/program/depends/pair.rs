@@ -1,7 +1,6 @@
 //! Two accepted job files that are alike outside the operands of code 02: which replies differ.
 
 use super::files::allowances;
-use super::walk_of;
 use crate::commands::Command;
 use crate::program::replies::Replied;
 
@@ -13,7 +12,7 @@ pub struct Reply {
     pub walks: Vec<Walk>,
 }
 
-/// A walk that a command begins in both files.
+/// A walk that takes a step in one of the files. With two allowances each walk does, as its limit is far below the first step size, 1.
 pub struct Walk {
     /// The slot's number and name; a cone has one slot without a name.
     pub slot: usize,
@@ -40,15 +39,12 @@ pub fn compare(a: &[Replied], b: &[Replied]) -> Vec<Reply> {
     compared.collect()
 }
 
-/// Alike files begin the same walks.
 fn walks(a: &Replied, b: &Replied) -> Vec<Walk> {
     let slots = a.slots().into_iter().zip(b.slots()).enumerate();
     let walks = slots.filter_map(|(slot, (a, b))| {
-        Some(Walk {
-            slot,
-            name: a.name,
-            steps: [walk_of(&a)?, walk_of(&b)?],
-        })
+        let steps = [a.steps?, b.steps?];
+        let name = a.name;
+        (steps != [0, 0]).then_some(Walk { slot, name, steps })
     });
     walks.collect()
 }
