@@ -94,7 +94,7 @@ SameSteps t u =
 abbrev pub SlotBySlot : Type 0
 SlotBySlot = OfEachPair SameSteps
 
--- What one run tells: a walk whose steps are fewer than its allowance ends by itself within that many,
+-- What one run tells: a walk whose steps are fewer than its allowance ends by itself within that many.
 abbrev pub Fewer : ℕ → Told → Type 0
 Fewer i t = stepsTold i t < t .allowance
 
@@ -108,7 +108,7 @@ OfEach P (t ∷ ts) = P t × OfEach P ts
 abbrev pub WalksEnded : Type 0
 WalksEnded = (job : List ℕ) → OfEach Ended (toldIn job)
 
--- and where that holds of every slot, the reply is the same for exactly those allowances that are at least each of its step bytes.
+-- Where the steps of every slot are fewer, the reply is the same for exactly those allowances that are at least each of its step bytes.
 abbrev pub Tells : Told → Told → Type 0
 Tells t u = ((i : ℕ) → Fewer i t) → (t .reply ≡ u .reply) ↔ ((i : ℕ) → stepsTold i t ≤ u .allowance)
 

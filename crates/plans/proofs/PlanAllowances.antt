@@ -1,4 +1,4 @@
--- For any plans and any two allowances: the claim of specs/PlanAllowances.antt. The law of two allowances of each walk is carried along the list of
+-- For any plans and any two allowances: the claims of specs/PlanAllowances.antt. The law of two allowances of each walk is carried along the list of
 -- the plans; no case of the geometry enters.
 use Prim.Native.Nat.{ℕ, zero, suc, _≤_, _<_}
 use native.Mathlib.Omega.{arith}

@@ -57,7 +57,7 @@ form width steps = record { width = width; steps = steps }
 abbrev pub noAnswer : Form
 noAnswer = form 0 []
 
--- "five slots"; "a slot is kind, steps (one byte each), lon, lat", so 18 bytes
+-- "five slots"; "A slot is kind, steps (one byte each), lon, lat", so 18 bytes
 abbrev pub fiveSlots : Form
 fiveSlots = form 90 (1 ∷ 19 ∷ 37 ∷ 55 ∷ 73 ∷ [])
 

@@ -9,11 +9,12 @@ use Rattle.table.specs.Table.{rowOf, answerWidth}
 use Rattle.table.specs.Turns.{replyOf, plansOf}
 use Rattle.table.specs.declared.state.State.{State}
 
+-- the bytes at these places
 abbrev pub bytesAt : List ℕ → List ℕ → List ℕ
 bytesAt [] bytes = []
 bytesAt (place ∷ places) bytes = getD bytes place 0 ∷ bytesAt places bytes
 
--- in a reply of this form, which follows code and status
+-- those of the steps, in a reply that has this form after code and status
 abbrev pub stepBytes : Form → List ℕ → List ℕ
 stepBytes f reply = bytesAt (f .steps) (drop 2 reply)
 
@@ -27,7 +28,7 @@ StepBytes =
     (s : State) (code : ℕ) (b : List ℕ) (i : ℕ)
     → stepByte i code (replyOf s code b) ≡ stepsAt i (slotsOf (s .allowance) (plansOf s code b))
 
--- None stands outside the reply.
+-- No step byte stands outside its reply.
 abbrev pub AllBelow : ℕ → List ℕ → Type 0
 AllBelow width [] = Unit {0}
 AllBelow width (place ∷ places) = (place < width) × AllBelow width places

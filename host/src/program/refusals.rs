@@ -39,7 +39,7 @@ fn stands(job: &[u8], Refusal { number, place }: Refusal) -> String {
     }
 }
 
-/// What to do about a text that was taken for a job file, where a byte that is no code looks like one.
+/// A hint, where the file seems to be a text that was taken for a job file.
 fn of_text(job: &[u8], byte: u8) -> &'static str {
     if is_utf_16(job) {
         " (a text in UTF-16 begins so; texts are UTF-8)"

@@ -21,7 +21,8 @@ fn a_file_is_put_in_place() {
         assert_eq!(fs::read(folder.path(&out)).expect("it is there"), expected);
     }
     assert_eq!(folder.finder(&["show", "-o", "-", "text"]).text(), TEXT);
-    assert_eq!(folder.names().len(), 1 + SUBCOMMANDS.len());
+    let outs = ["depends", "list", "run", "show", "write"].map(|name| format!("out of {name}"));
+    assert_eq!(folder.names(), [&outs[..], &["text".to_string()]].concat());
 }
 
 #[test]

@@ -12,7 +12,7 @@ pub struct Reply {
     pub walks: Vec<Walk>,
 }
 
-/// A walk that takes a step in one of the files. With two allowances each walk does, as its limit is far below the first step size, 1.
+/// A walk that takes a step in one of the files. Where its two allowances differ each walk does, as its limit is far below the first step size, 1.
 pub struct Walk {
     /// The slot's number and name; a cone has one slot without a name.
     pub slot: usize,
