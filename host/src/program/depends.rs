@@ -1,5 +1,5 @@
 //! `finder depends`: which replies depend on the iteration allowance. Replies and step bytes are compared, and nothing else; what follows from
-//! them is proved in crates/jobs/proofs/EachReply.antt.
+//! them is proved in crates/claims/proofs/EachReply.antt.
 
 pub mod alone;
 mod conclusions;

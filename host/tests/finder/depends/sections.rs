@@ -28,8 +28,8 @@ fn a_section_for_the_form() {
         "{section}"
     );
     for name in [
-        "`one-run-tells` in `crates/jobs/proofs/EachReply.antt`",
-        "`OneRunTells` in `crates/jobs/specs/EachReply.antt`",
+        "`one-run-tells` in `crates/claims/proofs/EachReply.antt`",
+        "`OneRunTells` in `crates/claims/specs/EachReply.antt`",
     ] {
         assert!(section.contains(name), "{section}");
     }

@@ -21,9 +21,9 @@ use Rattle.table.specs.Turns.{refusalOf, replyOf}
 use Rattle.table.specs.StatusTen.{statusByte}
 use Rattle.table.specs.declared.state.State.{State}
 use Rattle.commands.specs.TwoLists.{command}
 use Rattle.jobs.specs.Files.{replyFile, runFile}
-use Rattle.jobs.specs.TwoFiles.{begunIn, writtenBytes}
-use Rattle.jobs.specs.EachReply.{Told, told, toldIn, stepsTold, Fewer}
+use Rattle.claims.specs.TwoFiles.{begunIn, writtenBytes}
+use Rattle.claims.specs.EachReply.{Told, told, toldIn, stepsTold, Fewer}
 
 -- precision 1, this allowance, and one cone: z 0.5, z0 0.5, radius 1.5, its south point
 abbrev pub radius : Float

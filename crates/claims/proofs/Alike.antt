@@ -12,9 +12,9 @@ use Rattle.table.specs.Table.{inTable, operandWidth}
 use Rattle.table.specs.CommandAllowances.{LikeOperands}
 use Rattle.commands.specs.Commands.{Command}
 use Rattle.commands.specs.TwoLists.{command, LikeCommands, none, one}
 use Rattle.jobs.specs.Files.{Parsed, commands, refused, before, ended, parse, fileOf, commandsIn}
-use Rattle.jobs.specs.Alike.{allowancesFrom, isAllowance, Alike, SamePlaces}
-use Rattle.jobs.specs.TwoFiles.{IsAccepted}
+use Rattle.claims.specs.Alike.{allowancesFrom, isAllowance, Alike, SamePlaces}
+use Rattle.claims.specs.TwoFiles.{IsAccepted}
 
 -- bytes beside each other, of which the first `skip` are operands, of code 02 or not
 data Beside : Bool → ℕ → List ℕ → List ℕ → Type 0 where

@@ -24,7 +24,7 @@ use Rattle.table.specs.Rows.{Work, isHeight, isRadius, isLonModHalfPi, isFlag}
 use Rattle.table.specs.Table.{coneInEqr, coneInPc, rowOf}
 use Rattle.table.specs.Turns.{finiteFrom, flagsFrom, inRangeFrom, firstFailing, refusalOf, workOf, replyIn, turnOf, statusOf, answerBytes, replyBytes, replyOf}
 use Rattle.table.specs.declared.reply.Reply.the-variants.{Cone}
-use Rattle.jobs.specs.Examples.{minusSevenTenths, SignExamples, LimitExamples, withNoSteps, Taken, ConeExamples, Examples}
+use Rattle.claims.specs.Examples.{minusSevenTenths, SignExamples, LimitExamples, withNoSteps, Taken, ConeExamples, Examples}
 
 signs : SignExamples
 unfolding haveSameSign ofBits neg lt eq

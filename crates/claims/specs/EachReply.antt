@@ -12,9 +12,9 @@ use Rattle.table.specs.Turns.{replyOf, plansOf}
 use Rattle.table.specs.Steps.{stepByte}
 use Rattle.table.specs.declared.state.State.{State}
 use Rattle.commands.specs.Commands.{Command, leaves, lastAfter, Begun, eachWith}
 use Rattle.jobs.specs.Files.{commandsIn, fileOf, replyFile}
-use Rattle.jobs.specs.Alike.{Alike}
-use Rattle.jobs.specs.TwoFiles.{begunIn}
+use Rattle.claims.specs.Alike.{Alike}
+use Rattle.claims.specs.TwoFiles.{begunIn}
 
 -- a command's reply, with the allowance of its walks (the operand of the last code 02 before it; 0 where there is none) and what it has for each slot
 -- before any walk

@@ -15,9 +15,9 @@ use Rattle.table.specs.Table.{inTable, operandWidth}
 use Rattle.commands.specs.Commands.{Command, repliesFrom}
 use Rattle.commands.specs.TwoLists.{command}
 use Rattle.commands.proofs.TwoLists.{allowances-of-two-lists}
 use Rattle.jobs.specs.Files.{Parsed, commands, refused, before, ended, parse, fileOf, commandsIn, replyFile, Ran, ran, refuse, over, runParsed, runFile}
-use Rattle.jobs.specs.TwoFiles.{IsAccepted, AcceptedAnswersZero, begunIn, AllowancesOfTwoFiles, AcceptedAlike, Demand3, writtenBytes, Demand3OfRuns}
-use Rattle.jobs.proofs.Alike.{alike-commands, paired-files, both-accepted}
+use Rattle.claims.specs.TwoFiles.{IsAccepted, AcceptedAnswersZero, begunIn, AllowancesOfTwoFiles, AcceptedAlike, Demand3, writtenBytes, Demand3OfRuns}
+use Rattle.claims.proofs.Alike.{alike-commands, paired-files, both-accepted}
 
 pub two-files : AllowancesOfTwoFiles
 unfolding replyFile begunIn

@@ -39,16 +39,16 @@ use Rattle.table.specs.Table.{firstEnd, secondEnd, precision, allowance, arc, c
 use Rattle.table.specs.Turns.{finiteFrom, flagsFrom, inRangeFrom, firstFailing, refusalOf, workOf, statusIn, plansIn, leftIn, turnOf, after, walksOf}
 use Rattle.table.proofs.Steps.{step-bytes}
 use Rattle.table.proofs.StatusTen.{status-ten}
 use Rattle.jobs.specs.Files.{fileOf, runFile}
 use Rattle.jobs.specs.Passes.{checkedOf}
 use Rattle.jobs.specs.declared.file.Checked.the-variants as check
-use Rattle.jobs.specs.Alike.{allowancesFrom, isAllowance, Alike}
-use Rattle.jobs.specs.TwoFiles.{Accepted, begunIn}
-use Rattle.jobs.specs.EachReply.{Told, toldIn, EachPair, no-pair, pair, OfEachPair, stepsTold, Fewer}
-use Rattle.jobs.specs.BothSides.{radius, jobWith, walk, SidesOfWalk, SidesOfTwoFiles, ofPrecision, ofAllowance, ofCone, SidesOfReplies, room, SidesOfTwoRuns, fromSouthPole, ready, SidesOfStatusTen}
+use Rattle.claims.specs.Alike.{allowancesFrom, isAllowance, Alike}
+use Rattle.claims.specs.TwoFiles.{Accepted, begunIn}
+use Rattle.claims.specs.EachReply.{Told, toldIn, EachPair, no-pair, pair, OfEachPair, stepsTold, Fewer}
+use Rattle.claims.specs.BothSides.{radius, jobWith, walk, SidesOfWalk, SidesOfTwoFiles, ofPrecision, ofAllowance, ofCone, SidesOfReplies, room, SidesOfTwoRuns, fromSouthPole, ready, SidesOfStatusTen}
 use Rattle.jobs.proofs.Passes.{accepted-run}
-use Rattle.jobs.proofs.TwoFiles.{demand-3, demand-3-of-runs}
-use Rattle.jobs.proofs.EachReply.{reply-by-reply, slot-by-slot, walks-ended, one-run-tells}
+use Rattle.claims.proofs.TwoFiles.{demand-3, demand-3-of-runs}
+use Rattle.claims.proofs.EachReply.{reply-by-reply, slot-by-slot, walks-ended, one-run-tells}
 
 -- ---- the walk
 goes-on : goingOf (walk .limit) (startWalk (walk .z)) ≡ true

@@ -15,10 +15,10 @@ use Rattle.table.proofs.Steps.{step-bytes}
 use Rattle.commands.specs.Commands.{Command, repliesFrom, begunFrom, leaves}
 use Rattle.commands.specs.TwoLists.{command, LikeCommands, none, one}
 use Rattle.commands.proofs.Last.{last-after}
 use Rattle.jobs.specs.Files.{commandsIn, fileOf, replyFile}
-use Rattle.jobs.specs.TwoFiles.{begunIn}
-use Rattle.jobs.specs.EachReply.{Told, told, toldFrom, repliesTold, begunTold, PartsOfFile, EachPair, no-pair, pair, OfEachPair, SameReply, ReplyByReply, codesTold, SameCodes, SameSteps, SlotBySlot, Ended, OfEach, WalksEnded, Tells, OneRunTells}
-use Rattle.jobs.proofs.Alike.{alike-commands}
+use Rattle.claims.specs.TwoFiles.{begunIn}
+use Rattle.claims.specs.EachReply.{Told, told, toldFrom, repliesTold, begunTold, PartsOfFile, EachPair, no-pair, pair, OfEachPair, SameReply, ReplyByReply, codesTold, SameCodes, SameSteps, SlotBySlot, Ended, OfEach, WalksEnded, Tells, OneRunTells}
+use Rattle.claims.proofs.Alike.{alike-commands}
 
 -- ---- the parts of a file
 replies-told : (last : Allowance) (s : State) (cs : List Command) → repliesTold (toldFrom last s cs) ≡ repliesFrom s cs

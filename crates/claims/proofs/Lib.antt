@@ -1,0 +1,5 @@
+pub mod Alike
+pub mod TwoFiles
+pub mod EachReply
+pub mod Examples
+pub mod BothSides
