@@ -10,8 +10,8 @@ use mathlib.Core.Bool.{Bool, true, false, cond, _||_}
 use mathlib.Core.List.{List, [], _∷_}
 use Rattle.table.specs.Table.{inTable, operandWidth}
 use Rattle.table.specs.CommandAllowances.{LikeOperands}
-use Rattle.commands.specs.Commands.{Command}
-use Rattle.commands.specs.TwoLists.{command, LikeCommands, none, one}
+use Rattle.lists.specs.Commands.{Command}
+use Rattle.lists.specs.TwoLists.{command, LikeCommands, none, one}
 use Rattle.jobs.specs.Files.{Parsed, commands, refused, before, ended, parse, fileOf, commandsIn}
 use Rattle.claims.specs.Alike.{allowancesFrom, isAllowance, Alike, SamePlaces}
 use Rattle.claims.specs.TwoFiles.{IsAccepted}

@@ -12,9 +12,9 @@ use Rattle.table.specs.Steps.{stepByte}
 use Rattle.table.specs.declared.state.State.{State}
 use Rattle.table.proofs.CommandAllowances.{command-allowances}
 use Rattle.table.proofs.Steps.{step-bytes}
-use Rattle.commands.specs.Commands.{Command, repliesFrom, begunFrom, leaves}
-use Rattle.commands.specs.TwoLists.{command, LikeCommands, none, one}
-use Rattle.commands.proofs.Last.{last-after}
+use Rattle.lists.specs.Commands.{Command, repliesFrom, begunFrom, leaves}
+use Rattle.lists.specs.TwoLists.{command, LikeCommands, none, one}
+use Rattle.lists.proofs.Last.{last-after}
 use Rattle.jobs.specs.Files.{commandsIn, fileOf, replyFile}
 use Rattle.claims.specs.TwoFiles.{begunIn}
 use Rattle.claims.specs.EachReply.{Told, told, toldFrom, repliesTold, begunTold, PartsOfFile, EachPair, no-pair, pair, OfEachPair, SameReply, ReplyByReply, codesTold, SameCodes, SameSteps, SlotBySlot, Ended, OfEach, WalksEnded, Tells, OneRunTells}

@@ -12,9 +12,9 @@ use mathlib.Core.Bool.{Bool, true, false, cond, _||_}
 use mathlib.Core.List.{List, [], _∷_}
 use Rattle.table.specs.States.{unset}
 use Rattle.table.specs.Table.{inTable, operandWidth}
-use Rattle.commands.specs.Commands.{Command, repliesFrom}
-use Rattle.commands.specs.TwoLists.{command}
-use Rattle.commands.proofs.TwoLists.{allowances-of-two-lists}
+use Rattle.lists.specs.Commands.{Command, repliesFrom}
+use Rattle.lists.specs.TwoLists.{command}
+use Rattle.lists.proofs.TwoLists.{allowances-of-two-lists}
 use Rattle.jobs.specs.Files.{Parsed, commands, refused, before, ended, parse, fileOf, commandsIn, replyFile, Ran, ran, refuse, over, runParsed, runFile}
 use Rattle.claims.specs.TwoFiles.{IsAccepted, AcceptedAnswersZero, begunIn, AllowancesOfTwoFiles, AcceptedAlike, Demand3, writtenBytes, Demand3OfRuns}
 use Rattle.claims.proofs.Alike.{alike-commands, paired-files, both-accepted}

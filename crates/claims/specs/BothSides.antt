@@ -20,7 +20,7 @@ use Rattle.table.specs.Table.{rowOf}
 use Rattle.table.specs.Turns.{refusalOf, replyOf}
 use Rattle.table.specs.StatusTen.{statusByte}
 use Rattle.table.specs.declared.state.State.{State}
-use Rattle.commands.specs.TwoLists.{command}
+use Rattle.lists.specs.TwoLists.{command}
 use Rattle.jobs.specs.Files.{replyFile, runFile}
 use Rattle.claims.specs.TwoFiles.{begunIn, writtenBytes}
 use Rattle.claims.specs.EachReply.{Told, told, toldIn, stepsTold, Fewer}

@@ -11,7 +11,7 @@ use Rattle.table.specs.States.{unset, Allowance, noAllowance}
 use Rattle.table.specs.Turns.{replyOf, plansOf}
 use Rattle.table.specs.Steps.{stepByte}
 use Rattle.table.specs.declared.state.State.{State}
-use Rattle.commands.specs.Commands.{Command, leaves, lastAfter, Begun, eachWith}
+use Rattle.lists.specs.Commands.{Command, leaves, lastAfter, Begun, eachWith}
 use Rattle.jobs.specs.Files.{commandsIn, fileOf, replyFile}
 use Rattle.claims.specs.Alike.{Alike}
 use Rattle.claims.specs.TwoFiles.{begunIn}

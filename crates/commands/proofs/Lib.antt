@@ -1,3 +1,1 @@
 mod EndsTurns
-pub mod Last
-pub mod TwoLists

@@ -14,7 +14,7 @@ use mathlib.Core.List.{List, [], _∷_}
 use Rattle.table.specs.Table.{Known, inTable, operandWidth}
 use Rattle.jobs.specs.declared.item.Item.{Item}
 use Rattle.jobs.specs.declared.item.Item.the-variants as item
-use Rattle.commands.specs.Commands.{Command}
+use Rattle.lists.specs.Commands.{Command}
 use Rattle.jobs.specs.Files.{Parsed, commands, refused, before, ended, parse}
 use Rattle.jobs.specs.Passes.{itemOf, itemAt}
 use Rattle.table.proofs.Cases.{by-test}

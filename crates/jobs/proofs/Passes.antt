@@ -13,7 +13,7 @@ use Rattle.table.specs.Turns.{replyOf}
 use Rattle.table.specs.declared.state.State.{State}
 use Rattle.table.proofs.ReplyLengths.{length-reply}
 use Rattle.jobs.specs.declared.file.Checked.the-variants as checked
-use Rattle.commands.specs.Commands.{Command, leaves, repliesFrom}
+use Rattle.lists.specs.Commands.{Command, leaves, repliesFrom}
 use Rattle.jobs.specs.Files.{Parsed, commands, refused, before, fileOf, over, ran, runParsed}
 use Rattle.jobs.specs.Passes.{needed, checkedOf, Fitting, filled}
 use Rattle.words.proofs.Parts.{take-mid, drop-mid}

@@ -6,7 +6,7 @@ use mathlib.Core.Bool.{cond, _||_}
 use mathlib.Core.List.{List, [], _∷_, _++_}
 use Rattle.table.specs.States.{unset}
 use Rattle.table.specs.Table.{inTable, operandWidth}
-use Rattle.commands.specs.Commands.{Command, repliesFrom}
+use Rattle.lists.specs.Commands.{Command, repliesFrom}
 
 -- a job file: its commands before code 00, or the number and the place of a refusal
 pub data Parsed : Type 0 where

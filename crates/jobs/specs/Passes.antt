@@ -11,7 +11,7 @@ use Rattle.jobs.specs.declared.item.Item.the-variants as item
 use Rattle.jobs.specs.declared.file.Checked.{Checked}
 use Rattle.jobs.specs.declared.file.Checked.the-variants as checked
 use Rattle.jobs.specs.declared.file.Outcome.{Outcome}
-use Rattle.commands.specs.Commands.{Command, repliesFrom}
+use Rattle.lists.specs.Commands.{Command, repliesFrom}
 use Rattle.jobs.specs.Files.{Parsed, commands, refused, over, Ran, ran}
 
 -- a code at a place of a file of n bytes

@@ -15,7 +15,7 @@ use Rattle.table.specs.declared.state.State.{State}
 use Rattle.table.specs.declared.reply.Turn.{Turn}
 use Rattle.words.proofs.Parts.{length-mid}
 use Rattle.table.proofs.ReplyLengths.{reply-fits, length-reply}
-use Rattle.commands.specs.Commands.{leaves}
+use Rattle.lists.specs.Commands.{leaves}
 use Rattle.jobs.specs.Files.{Parsed, before, fileOf}
 use Rattle.jobs.specs.Passes.{Fitting, filled}
 use Rattle.jobs.proofs.Items.{parsedAt, commandAt, at-item, good-item}

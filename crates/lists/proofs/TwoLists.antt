@@ -14,9 +14,9 @@ use Rattle.table.specs.CommandAllowances.{Like, CommandInTwo}
 use Rattle.table.specs.declared.state.State.{State}
 use Rattle.table.proofs.ReplyLengths.{length-reply}
 use Rattle.table.proofs.CommandAllowances.{command-allowances}
-use Rattle.commands.specs.Commands.{Command, repliesFrom, Begun, eachWith, begunFrom, walks}
-use Rattle.commands.specs.TwoLists.{command, LikeCommands, none, one, EachEqualOrEnds, AllowancesOfTwoLists}
-use Rattle.commands.proofs.Last.{last-after}
+use Rattle.lists.specs.Commands.{Command, repliesFrom, Begun, eachWith, begunFrom, walks}
+use Rattle.lists.specs.TwoLists.{command, LikeCommands, none, one, EachEqualOrEnds, AllowancesOfTwoLists}
+use Rattle.lists.proofs.Last.{last-after}
 
 -- two first parts, as long as each other
 both-parts : (a b x y : List ℕ) → length a ≡ length b → (a ++ x ≡ b ++ y) ↔ ((a ≡ b) × (x ≡ y))

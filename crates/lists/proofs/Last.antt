@@ -4,7 +4,7 @@ use mathlib.Core.List.{List, [], _∷_}
 use Rattle.table.specs.States.{unset, Allowance, allowanceOf}
 use Rattle.table.specs.declared.state.State.{State}
 use Rattle.table.proofs.CommandAllowances.{allowance-after, none-unset}
-use Rattle.commands.specs.Commands.{Command, leaves, lastAfter, leftBy, lastOf, AllowanceIsLast}
+use Rattle.lists.specs.Commands.{Command, leaves, lastAfter, leftBy, lastOf, AllowanceIsLast}
 
 -- one command
 pub last-after : (s : State) (c : Command) → lastAfter (allowanceOf s) c ≡ allowanceOf (leaves s c)

@@ -7,7 +7,7 @@ use mathlib.Core.List.{List, [], _∷_}
 use Rattle.newton.specs.WalkAllowances.{EqualOrEnds}
 use Rattle.table.specs.States.{unset, noAllowance}
 use Rattle.table.specs.CommandAllowances.{LikeOperands}
-use Rattle.commands.specs.Commands.{Command, repliesFrom, Begun, begunFrom, walks}
+use Rattle.lists.specs.Commands.{Command, repliesFrom, Begun, begunFrom, walks}
 
 abbrev pub command : ℕ → List ℕ → Command
 command code b = record { code = code; operands = b }
