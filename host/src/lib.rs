@@ -13,6 +13,7 @@ pub mod inputs;
 pub mod job_files;
 #[cfg(reference)]
 pub mod outcomes;
+pub mod patterns;
 #[cfg(reference)]
 pub mod plain_reference;
 pub mod program;

@@ -1,4 +1,4 @@
-//! The program for people: job files from texts, and replies in words or as tables.
+//! The program for people: job files from texts, replies in words or as tables, and the command patterns.
 
 mod arguments;
 mod csv;
@@ -10,6 +10,7 @@ mod list;
 mod names;
 mod numbers;
 mod output;
+mod patterns;
 mod refusals;
 pub mod replies;
 mod rows;
@@ -82,12 +83,8 @@ fn perform(subcommand: &Subcommand, rest: &[OsString]) -> Result<u8, Stop> {
     if arguments.has(&arguments::HELP) {
         return print(subcommand.page);
     }
-    let (name, given) = (subcommand.name, arguments.files.len());
-    if given > subcommand.most_files {
-        let most = wording::counted(subcommand.most_files, "file");
-        let message = format!("{name} takes at most {most}, and {given} are given");
-        return Err(Stop::Usage(message));
-    }
+    let name = subcommand.name;
+    arguments.check(name, &subcommand.operands)?;
     let mut output = Output::new(&arguments)?;
     if subcommand.bytes && output.is_standard() && io::stdout().is_terminal() {
         let message =

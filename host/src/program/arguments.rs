@@ -1,4 +1,4 @@
-//! The arguments of a subcommand: its options, before or after its files.
+//! The arguments of a subcommand: its options, before or after its operands.
 
 use super::stop::Stop;
 use super::wording;
@@ -42,9 +42,17 @@ pub static ALLOWANCE: Opt = Opt {
 };
 pub static DEGREES: Opt = switch("--degrees");
 
+/// What a subcommand takes beside its options.
+pub enum Operands {
+    /// So many at most.
+    Files(usize),
+    /// One, or none.
+    Number,
+}
+
 #[derive(Default)]
 pub struct Arguments {
-    pub files: Vec<OsString>,
+    pub operands: Vec<OsString>,
     given: Vec<(&'static str, OsString)>,
 }
 
@@ -59,11 +67,11 @@ impl Arguments {
         while let Some(argument) = rest.next() {
             let shown = argument.to_string_lossy();
             if shown == "--" {
-                parsed.files.extend(rest.cloned());
+                parsed.operands.extend(rest.cloned());
                 break;
             }
-            if shown == "-" || !shown.starts_with('-') {
-                parsed.files.push(argument.clone());
+            if !is_option(&shown) {
+                parsed.operands.push(argument.clone());
                 continue;
             }
             let (name, value) = cut(argument);
@@ -74,15 +82,29 @@ impl Arguments {
             }
             parsed.given.push((option.long, value));
         }
-        let mut names = parsed
-            .files
+        Ok(parsed)
+    }
+
+    /// Sees that no file's name is empty, and that there are not more operands than are taken.
+    pub fn check(&self, subcommand: &str, taken: &Operands) -> Result<(), Stop> {
+        let (most, what, files) = match taken {
+            Operands::Files(most) => (*most, "file", &self.operands[..]),
+            Operands::Number => (1, "number", &[][..]),
+        };
+        let mut names = files
             .iter()
             .map(OsString::as_os_str)
-            .chain(parsed.value(&OUTPUT));
-        match names.any(|name| name.is_empty()) {
-            true => Err(Stop::Usage("the name of a file is empty".to_string())),
-            false => Ok(parsed),
+            .chain(self.value(&OUTPUT));
+        if names.any(|name| name.is_empty()) {
+            return Err(Stop::Usage("the name of a file is empty".to_string()));
         }
+        let given = self.operands.len();
+        if given > most {
+            let most = wording::counted(most, what);
+            let message = format!("{subcommand} takes at most {most}, and {given} are given");
+            return Err(Stop::Usage(message));
+        }
+        Ok(())
     }
 
     pub fn has(&self, option: &Opt) -> bool {
@@ -98,15 +120,21 @@ impl Arguments {
 
     /// The files, or standard input where there is none.
     pub fn inputs(&self) -> Result<Vec<&OsStr>, Stop> {
-        if self.files.is_empty() {
+        if self.operands.is_empty() {
             return Ok(vec![OsStr::new("-")]);
         }
-        if self.files.iter().filter(|file| *file == "-").count() > 1 {
+        if self.operands.iter().filter(|file| *file == "-").count() > 1 {
             let message = "standard input can be read only once";
             return Err(Stop::Usage(message.to_string()));
         }
-        Ok(self.files.iter().map(OsString::as_os_str).collect())
+        Ok(self.operands.iter().map(OsString::as_os_str).collect())
     }
+}
+
+/// A minus alone is standard input, and before a digit it is a sign.
+fn is_option(argument: &str) -> bool {
+    let after_minus = argument.strip_prefix('-');
+    after_minus.is_some_and(|rest| rest.starts_with(|next: char| !next.is_ascii_digit()))
 }
 
 /// The name of an option, and its value after `=`.

@@ -65,11 +65,8 @@ pub fn read_text(file: &OsStr) -> Result<Input, Stop> {
 
 fn read_bytes(file: &OsStr) -> Result<(String, Vec<u8>), Stop> {
     let (name, read) = if file == "-" {
-        let stdin = io::stdin();
-        if stdin.is_terminal() {
-            complain("reading from the terminal; end with ctrl-D");
-        }
-        ("standard input".to_string(), read_some(stdin.lock()))
+        say_how_to_end();
+        ("standard input".to_string(), read_some(io::stdin().lock()))
     } else {
         let name = Path::new(file).display().to_string();
         (name, File::open(file).and_then(read_some))
@@ -80,6 +77,13 @@ fn read_bytes(file: &OsStr) -> Result<(String, Vec<u8>), Stop> {
         ))),
         Ok(bytes) => Ok((name, bytes)),
         Err(error) => Err(Stop::failed(format!("{name}: {}", reason(&error)))),
+    }
+}
+
+/// Where standard input is a terminal, says how it is ended.
+pub fn say_how_to_end() {
+    if io::stdin().is_terminal() {
+        complain("reading from the terminal; end with ctrl-D");
     }
 }
 

@@ -55,9 +55,9 @@ pub fn complain(message: &str) {
     say(&format!("finder: {}", on_one_line(message)));
 }
 
-/// Writes a line to standard error. Where that fails, nobody can be told.
+/// Writes a line to standard error, at once, so that what others write doesn't come between. Where that fails, nobody can be told.
 pub fn say(line: &str) {
-    let _ = writeln!(io::stderr(), "{line}");
+    let _ = io::stderr().write_all(format!("{line}\n").as_bytes());
 }
 
 /// What is wrong with a file or a stream.

@@ -1,33 +1,33 @@
-//! The subcommands that take files.
+//! The subcommands that take options.
 
 use super::arguments::{
-    Arguments, Opt, ALLOWANCE, DEGREES, FORCE, FORMAT, HELP, JOB, OUTPUT, TEXT,
+    Arguments, Operands, Opt, ALLOWANCE, DEGREES, FORCE, FORMAT, HELP, JOB, OUTPUT, TEXT,
 };
 use super::output::Output;
 use super::stop::Stop;
-use super::{depends, list, run, show, wording, write};
+use super::{depends, list, patterns, run, show, wording, write};
 
 pub struct Subcommand {
     pub name: &'static str,
     pub page: &'static str,
     pub options: &'static [&'static Opt],
-    pub most_files: usize,
+    pub operands: Operands,
     /// Whether it writes bytes that are no text.
     pub bytes: bool,
     pub run: fn(&Arguments, &mut Output) -> Result<u8, Stop>,
 }
 
-static OF_TEXTS: [&Opt; 3] = [&OUTPUT, &FORCE, &HELP];
+static OF_ALL: [&Opt; 3] = [&OUTPUT, &FORCE, &HELP];
 static OF_BOTH: [&Opt; 5] = [&TEXT, &JOB, &OUTPUT, &FORCE, &HELP];
 static OF_DEPENDS: [&Opt; 7] = [&ALLOWANCE, &FORMAT, &TEXT, &JOB, &OUTPUT, &FORCE, &HELP];
 static OF_LISTS: [&Opt; 7] = [&FORMAT, &DEGREES, &TEXT, &JOB, &OUTPUT, &FORCE, &HELP];
 
-static SUBCOMMANDS: [Subcommand; 5] = [
+static SUBCOMMANDS: [Subcommand; 6] = [
     Subcommand {
         name: "write",
         page: include_str!("help/write.txt"),
-        options: &OF_TEXTS,
-        most_files: 1,
+        options: &OF_ALL,
+        operands: Operands::Files(1),
         bytes: true,
         run: write::run,
     },
@@ -35,7 +35,7 @@ static SUBCOMMANDS: [Subcommand; 5] = [
         name: "show",
         page: include_str!("help/show.txt"),
         options: &OF_BOTH,
-        most_files: 1,
+        operands: Operands::Files(1),
         bytes: false,
         run: show::run,
     },
@@ -43,7 +43,7 @@ static SUBCOMMANDS: [Subcommand; 5] = [
         name: "run",
         page: include_str!("help/run.txt"),
         options: &OF_BOTH,
-        most_files: 1,
+        operands: Operands::Files(1),
         bytes: true,
         run: run::run,
     },
@@ -51,7 +51,7 @@ static SUBCOMMANDS: [Subcommand; 5] = [
         name: "list",
         page: include_str!("help/list.txt"),
         options: &OF_LISTS,
-        most_files: usize::MAX,
+        operands: Operands::Files(usize::MAX),
         bytes: false,
         run: list::run,
     },
@@ -59,9 +59,17 @@ static SUBCOMMANDS: [Subcommand; 5] = [
         name: "depends",
         page: include_str!("help/depends.txt"),
         options: &OF_DEPENDS,
-        most_files: 2,
+        operands: Operands::Files(2),
         bytes: false,
         run: depends::run,
+    },
+    Subcommand {
+        name: "patterns",
+        page: include_str!("help/patterns.txt"),
+        options: &OF_ALL,
+        operands: Operands::Number,
+        bytes: false,
+        run: patterns::run,
     },
 ];
 

@@ -29,7 +29,7 @@ fn shown(page: &str) -> Vec<(Vec<String>, String)> {
 
 #[test]
 fn what_is_shown_is_printed() {
-    for (name, least) in [("README.md", 2), ("docs/MANUAL.md", 3)] {
+    for (name, least) in [("README.md", 2), ("docs/MANUAL.md", 4)] {
         let page = fs::read_to_string(repository().join(name)).expect("the page can be read");
         let mut found = 0;
         for (arguments, output) in shown(&page) {

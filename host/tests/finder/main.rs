@@ -6,6 +6,7 @@ mod documents;
 mod example;
 mod inputs;
 mod outputs;
+mod patterns;
 mod process;
 mod round_trips;
 mod texts;

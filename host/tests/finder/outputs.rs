@@ -4,9 +4,11 @@ use crate::process::{command, Folder};
 use std::fs::{self, File};
 use std::io::Read;
 use std::os::unix::fs::{symlink, PermissionsExt};
+use std::path::Path;
 use std::process::Stdio;
 
 const TEXT: &str = "precision 1e-9\nallowance 20\narc 0.1 0.2 0.35 0.25\nend\n";
+/// Those that take a file.
 const SUBCOMMANDS: [&str; 5] = ["write", "show", "run", "list", "depends"];
 const KEPT: &str = "is there already and is kept; --force replaces it";
 
@@ -153,6 +155,7 @@ fn a_full_disk() {
         &["list"],
         &["list", "--format", "json"],
         &["depends"],
+        &["patterns", "1"],
         &["help"],
         &["--version"],
     ] {
@@ -184,18 +187,18 @@ fn a_closed_pipe() {
     let folder = Folder::new();
     let text = folder.write("text", format!("{}end\n", "allowance 1\n".repeat(8_000)));
     let bad = folder.write("bad", "arc\nend\n");
-    let many = |first| [first].into_iter().chain(std::iter::repeat_n(&text, 200));
-    for (first, status, message) in [
-        (&text, 0, ""),
+    let list_many = |first| [&[Path::new("list"), first][..], &[&*text; 200]].concat();
+    for (arguments, status, message) in [
+        (list_many(&text), 0, ""),
         (
-            &bad,
+            list_many(&bad),
             1,
             ": 0 operands given; the form is `arc LON1 LAT1 LON2 LAT2`\n",
         ),
+        (vec![Path::new("patterns"), Path::new("5")], 0, ""),
     ] {
         let mut child = command()
-            .arg("list")
-            .args(many(first))
+            .args(arguments)
             .stdout(Stdio::piped())
             .stderr(Stdio::piped())
             .spawn()

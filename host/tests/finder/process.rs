@@ -1,4 +1,4 @@
-//! Runs the program, in folders of its own.
+//! Runs programs, in folders of their own.
 
 use std::ffi::OsStr;
 use std::fs;
@@ -6,6 +6,8 @@ use std::io::Write;
 use std::path::{Path, PathBuf};
 use std::process::{self, Command, Output, Stdio};
 use std::sync::atomic::{AtomicUsize, Ordering};
+use std::thread;
+use std::time::Duration;
 
 /// A fresh folder, which goes with its owner.
 pub struct Folder(PathBuf);
@@ -39,6 +41,15 @@ impl Folder {
             .collect();
         names.sort();
         names
+    }
+
+    /// Lets a shell do this in the folder, where `$0` is the repository. What this process writes itself, another thread's child may hold open
+    /// when it is to be run.
+    pub fn change(&self, script: &str) {
+        let mut bash = Command::new("bash");
+        bash.args(["-euc", script]).arg(repository());
+        let done = bash.current_dir(&self.0).status();
+        assert!(done.expect("bash is there").success(), "{script}");
     }
 
     /// Runs the program in this folder with nothing on its standard input.
@@ -104,14 +115,25 @@ pub fn finder<A: AsRef<OsStr>>(arguments: &[A], input: &[u8]) -> Ran {
 fn finder_in<A: AsRef<OsStr>>(folder: &Path, arguments: &[A], input: &[u8]) -> Ran {
     let mut command = command();
     command.args(arguments).current_dir(folder);
+    feed(&mut command, &[input])
+}
+
+/// Runs a program with these parts on its standard input, and a pause between them.
+pub fn feed(command: &mut Command, parts: &[&[u8]]) -> Ran {
+    const PAUSE: Duration = Duration::from_millis(50);
     command
         .stdin(Stdio::piped())
         .stdout(Stdio::piped())
         .stderr(Stdio::piped());
     let mut child = command.spawn().expect("the program starts");
     let mut stdin = child.stdin.take().expect("it has a standard input");
-    // A program that ends before it has read all closes the pipe.
-    let _ = stdin.write_all(input);
+    for (place, part) in parts.iter().enumerate() {
+        if place > 0 {
+            thread::sleep(PAUSE);
+        }
+        // A program that ends before it has read all closes the pipe.
+        let _ = stdin.write_all(part);
+    }
     drop(stdin);
     Ran::of(child.wait_with_output().expect("the program ends"))
 }

@@ -5,8 +5,8 @@ use std::fs;
 use std::io::Write;
 use std::process::{Command, Stdio};
 
-const SUBCOMMANDS: [&str; 5] = ["write", "show", "run", "list", "depends"];
-const ALL: &str = "there are help, write, show, run, list, depends";
+const SUBCOMMANDS: [&str; 6] = ["write", "show", "run", "list", "depends", "patterns"];
+const ALL: &str = "there are help, write, show, run, list, depends, patterns";
 
 /// A page of help, from its place among the program's sources.
 fn page(name: &str) -> String {
@@ -79,7 +79,7 @@ fn version() {
 
 #[test]
 fn wrong_usage() {
-    let table: [(&[&str], String); 25] = [
+    let table: [(&[&str], String); 29] = [
         (&["lst"], format!("there is no subcommand `lst` (did you mean `list`?); {ALL}")),
         (&["--list", "x"], format!("there is no subcommand `--list` (did you mean `list`?); {ALL}")),
         (&["compare"], format!("there is no subcommand `compare`; {ALL}")),
@@ -120,6 +120,13 @@ fn wrong_usage() {
         (&["depends", "a", "--format", "csv"], "`csv` is no format of depends; words and markdown are".into()),
         (&["depends", "a", "b", "c"], "depends takes at most 2 files, and 3 are given".into()),
         (&["list", "-", "-"], "standard input can be read only once".into()),
+        (&["pattern", "3"], format!("there is no subcommand `pattern` (did you mean `patterns`?); {ALL}")),
+        (&["patterns", "1", ""], "patterns takes at most 1 number, and 2 are given".into()),
+        (&["patterns", "1", "-o", ""], "the name of a file is empty".into()),
+        (
+            &["patterns", "--text", "1"],
+            "there is no option of patterns `--text`; there are -o, --output, --force, -h, --help".into(),
+        ),
     ];
     for (arguments, message) in table {
         finder(arguments, b"end\n").fails(2, &format!("finder: {message}\n"));
@@ -139,6 +146,8 @@ fn options_stand_anywhere() {
     }
     finder(&["list", "--", "--format"], b"")
         .fails(1, "finder: --format: there is no such file or folder\n");
+    // No option begins with a digit.
+    finder(&["list", "-1"], b"").fails(1, "finder: -1: there is no such file or folder\n");
 }
 
 /// Runs the program with these arguments in a terminal, where this is typed. Answers its exit status, and what the terminal shows.
@@ -164,17 +173,19 @@ fn in_a_terminal(arguments: &str, typed: &[u8]) -> (Option<i32>, String) {
 /// What is typed stands there too, before or after the message. At the end of its input `script` types ctrl-D.
 #[test]
 fn reading_from_a_terminal() {
-    let (status, shown) = in_a_terminal("list", b"allowance 1\nend\n");
-    assert_eq!(status, Some(0));
-    let mut lines = shown.lines();
-    assert!(
-        lines.any(|line| line == "finder: reading from the terminal; end with ctrl-D"),
-        "{shown}"
-    );
-    assert!(
-        shown.ends_with("   1  allowance 1\r\n          set\r\n"),
-        "{shown}"
-    );
+    for (subcommand, typed, end) in [
+        (
+            "list",
+            "allowance 1\nend\n",
+            "   1  allowance 1\r\n          set\r\n",
+        ),
+        ("patterns", "1\n", "05 00\r\n06 00\r\n"),
+    ] {
+        let (status, shown) = in_a_terminal(subcommand, typed.as_bytes());
+        let told = "finder: reading from the terminal; end with ctrl-D";
+        let said = shown.lines().any(|line| line == told);
+        assert!(status == Some(0) && said && shown.ends_with(end), "{shown}");
+    }
 }
 
 #[test]

@@ -1,10 +1,10 @@
 //! The script `finder`, which builds what is missing: a copy of it in a folder of its own, with tools that only act as if.
 
-use crate::process::{repository, Folder, Ran};
+use crate::process::{Folder, Ran};
 use std::fs;
 use std::process::Command;
 
-/// `bin` has the tools that build, and `basic` those that every machine has. The program shows where it is run, and its arguments.
+/// `bin` has the tools that build, of which `rt` reads its standard input, and `basic` those that every machine has. The program shows where it is run, and its arguments.
 const SETUP: &str = r#"
 mkdir -p bin basic logs other crates host/build host/src/program
 cp "$0/finder" "$0/crates.txt" .
@@ -15,15 +15,21 @@ for tool in bash cat chmod dirname find grep mkdir mktemp readlink rm sed tail t
 tool() { { echo '#!/usr/bin/env bash'; cat; } > "bin/$1"; chmod +x "bin/$1"; }
 tool cc < /dev/null
 tool rt << 'END'
-[[ $* != version ]] || { echo "a kit"; exit; }
-[[ $* == "staticlib finder" ]] || exit 1
-while IFS=: read -r crate _ && [[ $crate != finder ]]; do
-    echo "rt: $crate checked"
-    echo "rt: $crate proved, 3 must-fail edits" >&2
-done < crates.txt
-mkdir -p target/staticlib
-echo > target/staticlib/libfinder.a
-echo "rt: target/staticlib/libfinder.a has 2 functions"
+make() { mkdir -p "${1%/*}"; echo > "$1"; }
+library() {
+    while IFS=: read -r crate _ && [[ $crate != finder ]]; do
+        echo "rt: $crate checked"
+        echo "rt: $crate proved, 3 must-fail edits" >&2
+    done < crates.txt
+    make target/staticlib/libfinder.a
+    echo "rt: target/staticlib/libfinder.a has 2 functions"
+}
+case $* in
+    version) echo "a kit" ;;
+    "staticlib finder") cat; library ;;
+    "check patterns") cat; [[ -e target/stamp/patterns ]] || { make target/stamp/patterns; make target/bin/patterns; } ;;
+    *) exit 1 ;;
+esac
 END
 tool cargo << 'END'
 [[ $* == "build --release --offline --quiet --manifest-path "*" --bin finder" ]] || exit 1
@@ -35,20 +41,13 @@ END
 
 const PROVING: &str = "finder: proving the library, which takes some minutes the first time";
 const LINKING: [&str; 2] = ["finder: linking the program", "finder: built"];
+const PROVING_PATTERNS: [&str; 2] = ["finder: proving the program patterns", "finder: built"];
 const CLOSED: &str = "finder: standard output is closed\n";
 
 fn copy() -> Folder {
     let folder = Folder::new();
-    change(&folder, SETUP);
+    folder.change(SETUP);
     folder
-}
-
-/// Lets a shell do this in the folder. What this process writes itself, another thread's child may hold open when it is to be run.
-fn change(folder: &Folder, script: &str) {
-    let mut bash = Command::new("bash");
-    bash.args(["-euc", script]).arg(repository());
-    let done = bash.current_dir(folder.path("")).status();
-    assert!(done.expect("bash is there").success(), "{script}");
 }
 
 /// Runs a line of bash in the folder with its tools alone, as if two minutes and five seconds had gone.
@@ -89,29 +88,60 @@ fn says_how_far_it_is() {
     assert_eq!(untimed(&run(&folder, "./finder list")).join("\n"), expected);
     let again = "cd other; ../finder list 'a  b' ''";
     assert_eq!(run(&folder, again).text(), "<other><list><a  b><>");
-    change(&folder, "touch -d '1 hour' host/src/new");
+    folder.change("touch -d '1 hour' host/src/new");
     assert_eq!(untimed(&run(&folder, "./finder list")), LINKING);
-    change(
-        &folder,
-        "touch -d '1 hour ago' host/src/new; touch -d '1 hour' crates/new",
-    );
+    folder.change("touch -d '1 hour ago' host/src/new; touch -d '1 hour' crates/new");
     assert_eq!(untimed(&run(&folder, "./finder list"))[0], PROVING);
+}
+
+/// The program `patterns` is made for its subcommand alone, by `rt` alone, where it is missing or older than its sources; what is on standard
+/// input is left.
+#[test]
+fn proves_patterns_when_asked_for() {
+    const ASK: &str = "cd other; { ../finder patterns 2; cat; } <<< left";
+    let folder = copy();
+    run(&folder, "./finder list");
+    assert!(!folder.path("target/bin").exists());
+    folder.change("mv bin/cargo bin/cc other");
+    let ask = |said: &[&str]| {
+        let ran = run(&folder, ASK);
+        assert_eq!(untimed(&ran), said);
+        assert_eq!(
+            (ran.status, &*ran.out),
+            (0, &b"<other><patterns><2>left\n"[..])
+        );
+    };
+    ask(&PROVING_PATTERNS);
+    ask(&[]);
+    folder.change("rm target/bin/patterns");
+    ask(&PROVING_PATTERNS);
+    folder.change("touch -d '1 hour ago' target/bin/patterns");
+    ask(&PROVING_PATTERNS);
+    ask(&[]);
+    folder.change("mv other/* bin; rm -r target");
+    let ran = run(&folder, ASK);
+    let said = untimed(&ran);
+    let end = [LINKING[0], PROVING_PATTERNS[0], PROVING_PATTERNS[1]];
+    assert!(said[0] == PROVING && said.ends_with(&end), "{}", ran.err);
 }
 
 /// No tool is there, so nothing can be built.
 #[test]
 fn answers_before_it_builds() {
     let folder = copy();
-    change(&folder, "rm bin/*");
-    let pages =
-        ["help", "help/list"].map(|name| folder.path(&format!("host/src/program/{name}.txt")));
-    let [overview, list] = pages.map(|page| fs::read_to_string(page).expect("it is there"));
+    folder.change("rm bin/*");
+    let pages = ["help", "help/list", "help/patterns"];
+    let pages = pages.map(|name| folder.path(&format!("host/src/program/{name}.txt")));
+    let [overview, list, patterns] =
+        pages.map(|page| fs::read_to_string(page).expect("it is there"));
     for (line, page) in [
         ("./finder help", &overview),
         ("./finder -h", &overview),
         ("./finder help --help", &overview),
         ("./finder help list", &list),
         ("./finder list a --help", &list),
+        ("./finder help patterns", &patterns),
+        ("./finder patterns 7 --help", &patterns),
     ] {
         assert_eq!(run(&folder, line).text(), *page);
     }
@@ -149,32 +179,42 @@ fn says_its_version_before_it_builds() {
 fn names_a_tool_that_is_missing() {
     let folder = copy();
     for tool in ["cargo", "cc", "rt"] {
-        change(&folder, &format!("mv bin/{tool} other"));
+        folder.change(&format!("mv bin/{tool} other"));
         let message = format!("finder: {tool} is not on the PATH; README.md says what is needed\n");
         run(&folder, "./finder list -- --help").fails(1, &message);
-        change(&folder, &format!("mv other/{tool} bin"));
+        folder.change(&format!("mv other/{tool} bin"));
     }
 }
 
 /// The end of what a tool has said, and what could not be done.
 #[test]
 fn shows_why_a_tool_fails() {
-    let folder = copy();
-    for (tool, before, failed) in [
+    for (first, tool, before, failed) in [
         (
+            "true",
+            "rt",
+            PROVING,
+            "finder: the library could not be built",
+        ),
+        (
+            "true",
             "cargo",
             LINKING[0],
             "finder: the program could not be linked",
         ),
-        ("rt", PROVING, "finder: the library could not be built"),
+        (
+            "./finder list",
+            "rt",
+            PROVING_PATTERNS[0],
+            "finder: the program patterns could not be built",
+        ),
     ] {
+        let folder = copy();
+        run(&folder, first);
         let says = "for line in {1..30}; do echo $line >&2; done; exit 5";
         let lines = format!("'#!/usr/bin/env bash' '{says}'");
-        change(
-            &folder,
-            &format!("rm -rf target; printf '%s\\n' {lines} > bin/{tool}"),
-        );
-        let ran = run(&folder, "./finder list");
+        folder.change(&format!("printf '%s\\n' {lines} > bin/{tool}"));
+        let ran = run(&folder, "./finder patterns");
         let log: Vec<String> = (11..=30).map(|number| number.to_string()).collect();
         let end = format!("{before}\n{}\n{failed}", log.join("\n"));
         assert!(untimed(&ran).join("\n").ends_with(&end), "{}", ran.err);
@@ -185,7 +225,7 @@ fn shows_why_a_tool_fails() {
 #[test]
 fn called_through_links() {
     let folder = copy();
-    change(&folder, "ln -s ../finder other/link; ln -s other/link link");
+    folder.change("ln -s ../finder other/link; ln -s other/link link");
     let ran = run(&folder, "cd other; PATH=$PATH:.; link run");
     assert_eq!((ran.status, &*ran.out), (0, &b"<other><run>"[..]));
     assert!(run(&folder, "./link list").text().ends_with("><list>"));

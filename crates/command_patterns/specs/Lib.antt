@@ -1,0 +1,4 @@
+pub mod Patterns
+pub mod Held
+pub mod Listing
+pub mod Laws
