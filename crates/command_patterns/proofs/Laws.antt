@@ -12,7 +12,7 @@ use Rattle.command_patterns.specs.Patterns.{allCodes, isPattern, ComesBe
 use Rattle.command_patterns.specs.Listing.{lineFeed, codeThen, line, listing, digitOf, numberIn, printed}
 use Rattle.command_patterns.specs.Laws.{Stands, EachAtItsRank, NoOther, ListedInOrder, AsManyAsCounted, LineShowsPattern, RankGivesBack, RankOfEach, LowerComesFirst, ThreeBytesDecide, TenInputs, PatternExamples}
 use Rattle.command_patterns.proofs.Lines.{length-line}
-use Rattle.command_patterns.proofs.Numbers.{number-of-digits, codes-of-digits, digits-of-number, number-counted, positive, some-code, few-codes}
+use Rattle.command_patterns.proofs.Numbers.{number-of-digits, digits-of-number, number-counted, positive, some-code, right-codes, few-codes}
 use Rattle.command_patterns.proofs.Orders.{and-parts, and-both, lower, Compared, same, first, last, compared}
 
 -- what a pattern is, part by part
@@ -55,7 +55,7 @@ rank-of-each n k h =
           (record {
             some = some-code k;
             few = few-codes n k h;
-            codes = codes-of-digits (suc k) (suc k);
+            codes = right-codes k;
           }),
       ap (λ (m : ℕ). m - 1) (number-of-digits (suc k) (suc k) (omega arith)) ∙ omega arith,
     )
