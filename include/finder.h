@@ -34,7 +34,7 @@
 #include <stdint.h>
 
 /*
- * The stack of a call. Measured, not proved: the comparison of job files has met at most 3,544 bytes, return address and `fmod` included, which
+ * The stack of a call. Measured, not proved: the comparison of job files has met at most 3,432 bytes, return address and `fmod` included, which
  * is also the longest chain of calls by the sizes of the frames; here is more than twice as much. A dynamic linker that looks `fmod` up at its
  * first call takes a part of this stack too (4,776 bytes in all where it was tried); linked statically or with -z now there is no such look-up.
  */
@@ -105,7 +105,8 @@
 
 /*
  * The kind of a slot, a cone's answer or a parallel's. Longitude, latitude and a cone's z stand at FINDER_KIND_FOUND only, the steps of the walk
- * at the kinds from 2 on in a slot or a cone's answer; all else is zero. A NaN is written 7FF8000000000000.
+ * at the kinds from 2 on in a slot or a cone's answer; all else is zero. A longitude is at least 0 and below 2 pi, 6.283185307179586, or a NaN;
+ * it may be -0. A NaN is written 7FF8000000000000.
  */
 #define FINDER_KIND_NO_PIECE 0    /* the arc has no such piece */
 #define FINDER_KIND_NO_WALK 1     /* longitudes equal or signs the same, no walk */

@@ -1,6 +1,6 @@
-//! Makes the reference ready to be compiled: reads its source, puts document 01's angle functions in the place of the library's, and writes
-//! the result to OUT_DIR, once so and once with calls that tell its work on each slot. An edit that doesn't find its place as often as it
-//! says fails the build.
+//! Makes the reference ready to be compiled: reads its source, puts document 01's angle functions in the place of the library's, makes document
+//! 02's changes, and writes the result to OUT_DIR, once so and once with calls that tell its work on each slot. An edit that doesn't find its
+//! place as often as it says fails the build.
 
 use std::env;
 use std::fs;
@@ -41,6 +41,13 @@ const COO3D_EDITS: [Edit; 6] = [
     edit(1, "lat.sin_cos()", "crate::angles::sin_cos(lat)"),
 ];
 
+/// Document 02, ask 2: both longitude functions give 0 where adding 2π comes to exactly 2π.
+const LONGITUDE_EDITS: [Edit; 1] = [edit(
+    2,
+    "lon += TWO_PI;",
+    "lon += TWO_PI; if lon == TWO_PI { lon = 0.0; }",
+)];
+
 const FINDER_EDITS: [Edit; 2] = [
     edit(
         1,
@@ -56,7 +63,7 @@ const FINDER_EDITS: [Edit; 2] = [
 
 // From here on: calls of src/reference.rs. They change nothing of what is worked out.
 
-const COO3D_CALLS: [Edit; 3] = [
+const COO3D_CALLS: [Edit; 5] = [
     edit(
         1,
         "use super::super::Customf64;",
@@ -64,6 +71,17 @@ const COO3D_CALLS: [Edit; 3] = [
     ),
     edit(10, ".sqrt()", ".sqrt().counted()"),
     edit(5, "crate::angles::atan2(", "super::super::counted::atan2("),
+    // In lonlat_of, and in UnitVect3::lonlat.
+    edit(
+        1,
+        "{ lon = 0.0; }\n  } else if",
+        "{ super::super::turned(super::super::LONLAT_OF, y); lon = 0.0; }\n  } else if",
+    ),
+    edit(
+        1,
+        "{ lon = 0.0; }\n    }",
+        "{ super::super::turned(super::super::LONLAT, self.y); lon = 0.0; }\n    }",
+    ),
 ];
 
 const FINDER_CALLS: [Edit; 14] = [
@@ -155,11 +173,11 @@ pub fn prepare(repository: &Path) {
     }
 }
 
-/// Writes the reference with document 01's angle functions, and with these edits more of its two files.
+/// Writes the reference with document 01's angle functions and document 02's changes, and with these edits more of its two files.
 fn write(folder: &Path, name: &str, [in_coo3d, in_finder]: [&[Edit]; 2]) -> Result<(), String> {
     let lib = read(folder, LIB)?;
-    let coo3d = with_edits(folder, COO3D, &COO3D_EDITS, in_coo3d)?;
-    let finder = with_edits(folder, FINDER, &FINDER_EDITS, in_finder)?;
+    let coo3d = with_edits(folder, COO3D, &[&COO3D_EDITS, &LONGITUDE_EDITS, in_coo3d])?;
+    let finder = with_edits(folder, FINDER, &[&FINDER_EDITS, in_finder])?;
     let mut text = String::new();
     for start in LIB_ITEMS {
         text += &item(&lib, start)?;
@@ -177,9 +195,9 @@ fn read(folder: &Path, name: &str) -> Result<String, String> {
     fs::read_to_string(&path).map_err(|error| format!("{}: {error}", path.display()))
 }
 
-fn with_edits(folder: &Path, name: &str, edits: &[Edit], calls: &[Edit]) -> Result<String, String> {
+fn with_edits(folder: &Path, name: &str, edits: &[&[Edit]]) -> Result<String, String> {
     let mut text = read(folder, name)?;
-    for Edit { places, from, to } in edits.iter().chain(calls) {
+    for Edit { places, from, to } in edits.iter().copied().flatten() {
         let found = text.matches(from).count();
         if found != *places {
             return Err(format!("{name} has `{from}` {found} times, not {places}"));

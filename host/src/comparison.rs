@@ -10,6 +10,7 @@ use crate::job_files::{self, Maker};
 use crate::outcomes::{print_row, Outcomes};
 use crate::reference::{self, Panic};
 use crate::rules::{self, Answer, Content, Reply};
+use crate::turns::Turns;
 use depends::Depends;
 use guarded::{Guarded, Side};
 use stack::Stack;
@@ -66,6 +67,7 @@ struct Comparison {
     tallies: Vec<Tally>,
     total: Tally,
     outcomes: Outcomes,
+    turns: Turns,
     /// Slots that the reference did not come to.
     unknown_slots: u64,
     files: u64,
@@ -86,6 +88,7 @@ impl Comparison {
             tallies,
             total: Tally::default(),
             outcomes: Outcomes::default(),
+            turns: Turns::default(),
             unknown_slots: 0,
             files: 0,
             files_differ: 0,
@@ -133,7 +136,7 @@ impl Comparison {
         let mut at = 0;
         for reply in &expected.replies {
             let bytes = self.reply.buffer()[at..at + reply.width()].to_vec();
-            let agrees = reply.agrees(&bytes);
+            let agrees = reply.agrees(&bytes) && reply.is_in_turn();
             if !matches!(reply.command.code, PRECISION | ALLOWANCE) {
                 let class = classes.next().copied();
                 let class = class.unwrap_or(self.tallies.len() - 1);
@@ -141,6 +144,7 @@ impl Comparison {
                 self.total.count(reply, agrees);
             }
             self.unknown_slots += reply.unknown_slots() as u64;
+            self.turns.count(reply);
             if agrees {
                 self.outcomes.count(&bytes);
             } else {
@@ -232,6 +236,7 @@ impl Comparison {
         }
         self.total.print("all");
         self.outcomes.print();
+        self.turns.print();
         print_row(
             "slots that the reference did not come to",
             [self.unknown_slots],
@@ -252,7 +257,8 @@ impl Comparison {
         let missing = if count < LONG_RUN {
             Vec::new()
         } else {
-            [self.outcomes.missing(), self.depends.missing()].concat()
+            let (outcomes, turns) = (self.outcomes.missing(), self.turns.missing());
+            [outcomes, turns, self.depends.missing()].concat()
         };
         for outcome in &missing {
             println!("jobs: FAILED, not seen: {outcome}");

@@ -106,6 +106,15 @@ pub fn any(random: &mut Random) -> Command {
     }
 }
 
+/// An arc or a parallel both of whose ends lie so close to longitude 0 that a longitude may come to 2π.
+pub fn beside_longitude_0(random: &mut Random) -> Command {
+    if random.flip() {
+        arc(random, ends::beside_longitude_0)
+    } else {
+        parallels::beside_longitude_0(random)
+    }
+}
+
 /// An arc between two ends, in either order.
 fn arc(random: &mut Random, draw: fn(&mut Random) -> Ends) -> Command {
     let [lon1, lat1, lon2, lat2] = draw(random);

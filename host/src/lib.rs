@@ -27,6 +27,8 @@ pub mod rules;
 pub mod stored_answers;
 #[cfg(reference)]
 pub mod timing;
+#[cfg(reference)]
+pub mod turns;
 
 /// The pattern of every NaN that a function proved in Rattle answers.
 pub const CANONICAL_NAN: u64 = 0x7FF8_0000_0000_0000;

@@ -1,4 +1,4 @@
-//! The reference with document 01's angle functions and nothing else changed: for timing.
+//! The reference with document 01's angle functions and document 02's changes and nothing else: for timing.
 
 include!(concat!(env!("OUT_DIR"), "/plain_reference.rs"));
 

@@ -20,6 +20,15 @@ const NORTH: usize = 3;
 const FIRST: usize = 0;
 const SECOND: usize = 1;
 
+/// The two longitude functions, where document 02's ask 2 has changed them.
+pub const LONGITUDES: [&str; 2] = ["lonlat_of", "UnitVect3::lonlat"];
+const LONLAT_OF: usize = 0;
+const LONLAT: usize = 1;
+/// Where a longitude has come to 2π, the sizes of y are told apart at these.
+pub const SIZES_OF_Y: [f64; 3] = [f64::MIN_POSITIVE, 1e-100, 1e-30];
+/// How often each of them has come to 2π, by the size of y.
+pub type WholeTurns = [[u32; SIZES_OF_Y.len() + 1]; LONGITUDES.len()];
+
 /// How far the reference has come with a slot, as document 01's kinds: 0 no piece, 1 a piece, 2 a walk, 3 a point, 4 no crossing. A crossing
 /// at which it panics leaves a 2.
 #[derive(Clone, Copy, Debug)]
@@ -38,6 +47,7 @@ pub struct Work {
     pub order: [usize; 5],
     /// The slot that was worked on last.
     pub at: usize,
+    pub whole_turns: WholeTurns,
     /// The first slot of the region.
     region: usize,
 }
@@ -50,6 +60,7 @@ const NO_WORK: Work = Work {
     }; 5],
     order: [0, 1, 2, 3, 4],
     at: 0,
+    whole_turns: [[0; SIZES_OF_Y.len() + 1]; LONGITUDES.len()],
     region: 0,
 };
 
@@ -109,6 +120,12 @@ fn crossed(crossing: Option<LonLat>) -> Option<LonLat> {
         None => slot.kind = 4,
     });
     crossing
+}
+
+/// Called where one of the longitude functions has come to 2π, with the vector's y.
+fn turned(function: usize, y: f64) {
+    let size = SIZES_OF_Y.partition_point(|size| *size <= y.abs());
+    note(|work| work.whole_turns[function][size] += 1);
 }
 
 /// Called on each root that is taken in the reference's own text.

@@ -2,31 +2,33 @@
 
 use crate::angles;
 use crate::commands::{Command, Float, ALLOWANCE, ARC, END, PARALLEL, REPLY_BUFFER};
-use crate::inputs::{Input, NOT_FINITE};
+use crate::inputs::{self, Input, NOT_FINITE};
 use crate::job_files::{self, Maker};
 use crate::outcomes::Outcomes;
 use crate::random::moved;
 use crate::reference;
 use crate::rules::{self, Settings};
+use crate::turns::Turns;
 use std::f64::consts::PI;
 use std::fmt;
 
 const SEED: u64 = 0x5374_6F72;
 const FILES: usize = 2_200;
-/// At least so many jobs for each kind in each slot, and at most so many tried for it.
+/// At least so many jobs for each kind in each slot and each longitude beside 0, and at most so many tried for it.
 const OF_A_KIND: u64 = 4;
 const MOST_TRIED: usize = 2_000_000;
 /// The file starts with a text of this length.
 const TEXT_LENGTH: usize = 512;
 const TEXT: &str = "Stored answers of the special point finder, made by `cargo run --release --offline --manifest-path host/Cargo.toml \
 --bin make_stored_answers` from document 01's rules (host/src/rules.rs) and the reference, cds-astro/cds-healpix-rust 4e5e5bc0f3 with \
-document 01's angle functions. After these 512 bytes come records, little-endian: length of the job file, length of the reply buffer, \
+document 01's angle functions and document 02's changes. After these 512 bytes come records, little-endian: length of the job file, length of the reply buffer, \
 number, place, bytes written (u32 each); the job file; the bytes written.";
 
 pub struct Stored {
     pub bytes: Vec<u8>,
     files: usize,
     outcomes: Outcomes,
+    turns: Turns,
     maker: Maker,
 }
 
@@ -37,6 +39,7 @@ pub fn make() -> Result<Stored, String> {
         bytes: format!("{TEXT:<width$}\n", width = TEXT_LENGTH - 1).into_bytes(),
         files: 0,
         outcomes: Outcomes::default(),
+        turns: Turns::default(),
         maker: Maker::new(SEED),
     };
     stored.add_examples();
@@ -46,10 +49,16 @@ pub fn make() -> Result<Stored, String> {
     stored.add_refusals();
     stored.add_allowances();
     stored.add_kinds();
+    stored.add_turns();
     stored.add_mixed();
-    match stored.outcomes.missing() {
-        missing if missing.is_empty() => Ok(stored),
-        missing => Err(format!("not seen: {}", missing.join("; "))),
+    let mut missing = stored.outcomes.missing();
+    if stored.turns.least() == 0 {
+        missing.push("longitudes of a whole turn and of −0".to_string());
+    }
+    if missing.is_empty() {
+        Ok(stored)
+    } else {
+        Err(format!("not seen: {}", missing.join("; ")))
     }
 }
 
@@ -73,6 +82,7 @@ impl Stored {
             let at = replies.len();
             reply.write(&mut replies);
             self.outcomes.count(&replies[at..]);
+            self.turns.count(reply);
         }
         let number = usize::from(answer.number);
         for number in [job.len(), buffer, number, answer.place, replies.len()] {
@@ -239,6 +249,21 @@ impl Stored {
             let mut bytes = Vec::new();
             rules::reply(&job, &Settings::new(precision, allowance)).write(&mut bytes);
             if self.outcomes.least_of(&bytes) < OF_A_KIND {
+                self.add_job(precision, allowance, job);
+            }
+        }
+    }
+
+    /// Jobs beside longitude 0, of which those are kept with a longitude of a whole turn or of −0 while there are too few.
+    fn add_turns(&mut self) {
+        for _ in 0..MOST_TRIED {
+            if self.turns.least() >= OF_A_KIND {
+                return;
+            }
+            let job = inputs::beside_longitude_0(&mut self.maker.random);
+            let (precision, allowance) = (1e-9, 20);
+            let reply = rules::reply(&job, &Settings::new(precision, allowance));
+            if self.turns.least_of(&reply) < OF_A_KIND {
                 self.add_job(precision, allowance, job);
             }
         }

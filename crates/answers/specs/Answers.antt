@@ -2,7 +2,7 @@
 use lib.Ieee.{Float}
 use Prim.Native.Nat.{ℕ}
 use Rattle.angles.specs.Floats.{plusZero}
-use Rattle.coo3d.specs.LonLats.{unitLonLat}
+use Rattle.coo3d.specs.LonLats.{lonLatOf}
 use Rattle.crossing.specs.declared.parallel.Crossing.{Crossing}
 use Rattle.crossing.specs.declared.parallel.Crossing.the-variants as crossing
 use Rattle.answers.specs.declared.answer.Answer.{Answer}
@@ -42,6 +42,6 @@ numbersOf NoRoot = kindAlone 5
 
 -- a crossing's answer: a vector is replied through `UnitVect3::lonlat`
 unfoldable pub crossedOf : Crossing → Answer
-crossedOf (crossing.At v) = let p = unitLonLat v in Found (p .lon) (p .lat)
+crossedOf (crossing.At v) = let p = lonLatOf (v .x) (v .y) (v .z) in Found (p .lon) (p .lat)
 crossedOf crossing.NotBetween = NotBetween
 crossedOf crossing.NoRoot = NoRoot

@@ -218,6 +218,21 @@ pub less-le : (x y : Float) → lt x y ≡ true → T (le x y)
 unfolding le
 less-le x y h = rw h tt
 
+level→ : (s t : Bool) (a b : ℕ) → T (level s a t b) → cond t 0 b + cond s a 0 ≤ cond s 0 a + cond t b 0
+level→ false false a b h = omega (arith, eqb→eq a b (and-l (eqb a b) true h))
+level→ false true a b h = omega (arith, eqb→eq a b (and-l (eqb a b) (eqb a 0) h), eqb→eq a 0 (and-r (eqb a b) (eqb a 0) h))
+level→ true false a b h = omega (arith, eqb→eq a b (and-l (eqb a b) (eqb a 0) h), eqb→eq a 0 (and-r (eqb a b) (eqb a 0) h))
+level→ true true a b h = omega (arith, eqb→eq a b (and-l (eqb a b) true h))
+
+-- equal, and so at most, the other way round
+pub equal-le : (x y : Float) → T (finite x) → T (finite y) → T (eq x y) → T (le y x)
+unfolding le lt eq
+equal-le nan y f g h = absurd f
+equal-le (inf s) y f g h = absurd f
+equal-le (fin s m e) nan f g h = absurd g
+equal-le (fin s m e) (inf t) f g h = absurd g
+equal-le (fin s m e) (fin t n d) f g h = most← t s (n * up d * down e) (m * up e * down d) (level→ s t (m * up e * down d) (n * up d * down e) h)
+
 pub not-above : (x y : Float) → T (finite x) → T (finite y) → le x y ≡ false → T (le y x)
 not-above x y f g h = less-le y x (above x y (not-nan x f) (not-nan y g) h)
 

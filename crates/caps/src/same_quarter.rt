@@ -2,6 +2,7 @@
 
 use angles::PI;
 use angles::float;
+use coo3d::lonlat;
 use coo3d::point::Coo3D;
 use coo3d::quarter;
 use coo3d::vect3;
@@ -39,12 +40,12 @@ fn cone_center(v1: Vect3, v2: Vect3) -> Center
     ensures { λ r. ⌜ r ≡ centerOf v1 v2 ⌝ }
 {
     let n = vect3::cross_product(v1, v2).normalized();
-    let lon = n.lon();
+    let lon = lonlat::lon_of(n.x, n.y);
     if lon > PI {
         let o = n.opposite();
         Center {
             z: o.z,
-            lon: o.lon(),
+            lon: lonlat::lon_of(o.x, o.y),
         }
     } else {
         Center { z: n.z, lon }

@@ -13,8 +13,8 @@ use Rattle.angles.specs.Constants.{half, halfPi, transitionZ}
 use Rattle.angles.specs.Inverse.{horner, halfAngle, arctangentOf, firstQuadrant, reflectedOf, atan2Of}
 use Rattle.angles.specs.Circular.{_!, sineSeries, cosineSeries, withinQuarterTurn, quarterTurns, turnedBy, signedSine, sinCosOf}
 use Rattle.coo3d.specs.Vectors.{dotOf, crossOf, squaredNormOf, normOf, dividedBy, normalizedOf}
-use Rattle.coo3d.specs.LonLats.{vec3Of}
-use Rattle.coo3d.specs.Points.{coo3D, isLongitude, isLatitude, fromSphCoo, vectOf}
+use Rattle.coo3d.specs.LonLats.{isLongitude, isLatitude, vec3Of}
+use Rattle.coo3d.specs.Points.{coo3D, fromSphCoo, vectOf}
 use Rattle.coo3d.specs.declared.point.Coo3D.{Coo3D}
 use Rattle.crossing.specs.GreatArcs.{greatArc, passesOf}
 use Rattle.crossing.specs.Parallels.{strictlyBetween, firstThatPasses, nearMeridian, quadratic, ruleOf, byRule, crossingBy, crossingOf, intersectParallel}

@@ -3,3 +3,4 @@ pub mod TwoFiles
 pub mod EachReply
 pub mod Examples
 pub mod BothSides
+pub mod Longitudes

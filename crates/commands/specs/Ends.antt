@@ -3,7 +3,7 @@ use Prim.Native.Nat.{ℕ}
 use mathlib.Core.Bool.{Bool, _&&_}
 use mathlib.Core.List.{List}
 use Rattle.angles.specs.Floats.{finiteOf}
-use Rattle.coo3d.specs.Points.{isLongitude, isLatitude}
+use Rattle.coo3d.specs.LonLats.{isLongitude, isLatitude}
 use Rattle.words.specs.Words.{floatAt}
 use Rattle.commands.specs.declared.ends.Ends.{Ends}
 

@@ -1,7 +1,7 @@
 // The ends of an arc, as codes 03 and 06 have them first among their operands.
 
 use angles::float;
-use coo3d::point;
+use coo3d::lonlat;
 use words::input;
 ghost use mathlib.Core.Path.{_≡_};
 ghost use Prim.Native.Nat.{_≤_};
@@ -40,9 +40,9 @@ impl Ends {
     pub fn in_range(self) -> bool
         ensures { λ r. ⌜ r ≡ endsInRange self ⌝ }
     {
-        point::is_longitude(self.lon1)
-            & point::is_latitude(self.lat1)
-            & point::is_longitude(self.lon2)
-            & point::is_latitude(self.lat2)
+        lonlat::is_longitude(self.lon1)
+            & lonlat::is_latitude(self.lat1)
+            & lonlat::is_longitude(self.lon2)
+            & lonlat::is_latitude(self.lat2)
     }
 }

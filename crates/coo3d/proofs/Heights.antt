@@ -12,8 +12,8 @@ use Rattle.angles.specs.Circular.{sinCosOf}
 use Rattle.bounds.specs.Ranges.{between, isNumber}
 use Rattle.bounds.proofs.Order.{finite-between, not-nan, abs-below, le-trans-at}
 use Rattle.bounds.proofs.Ranges.{ranges}
-use Rattle.coo3d.specs.LonLats.{vec3Of}
-use Rattle.coo3d.specs.Points.{isLongitude, isLatitude, fromVec3, fromSphCoo, HeightInRange}
+use Rattle.coo3d.specs.LonLats.{isLongitude, isLatitude, vec3Of}
+use Rattle.coo3d.specs.Points.{fromVec3, fromSphCoo, HeightInRange}
 use Rattle.coo3d.specs.declared.point.Coo3D.{Coo3D}
 
 -- a latitude in range is an angle of less than a turn

@@ -1,2 +1,5 @@
 pub mod Quarters
 pub mod Heights
+pub mod LastOfTurn
+pub mod WholeTurns
+pub mod TurnExamples

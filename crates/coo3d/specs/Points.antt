@@ -1,15 +1,14 @@
 -- A point is a record of five floats, x, y, z, longitude and latitude (document 01, "Points"). Definitions, and a claim on heights; `proofs/Heights.antt`
 -- proves it.
-use lib.Ieee.{Float, neg, lt, le}
+use lib.Ieee.{Float, neg}
 use mathlib.Core.Path.{_≡_}
-use mathlib.Core.Bool.{Bool, true, cond, _&&_}
-use Rattle.angles.specs.Floats.{plusZero, one}
-use Rattle.angles.specs.Constants.{halfPi, twoPi}
+use mathlib.Core.Bool.{true, cond, _&&_}
+use Rattle.angles.specs.Floats.{one}
 use Rattle.bounds.specs.Ranges.{between}
 use Rattle.coo3d.specs.declared.vect3.Vect3.{Vect3}
 use Rattle.coo3d.specs.declared.point.Coo3D.{Coo3D}
 use Rattle.coo3d.specs.Vectors.{vect}
-use Rattle.coo3d.specs.LonLats.{lonLatOf, vec3Of}
+use Rattle.coo3d.specs.LonLats.{isLongitude, isLatitude, lonLatOf, vec3Of}
 
 abbrev pub coo3D : Float → Float → Float → Float → Float → Coo3D
 coo3D a b c l m = record { x = a; y = b; z = c; lon = l; lat = m }
@@ -21,14 +20,7 @@ fromVec3 a b c = let p = lonLatOf a b c in coo3D a b c (p .lon) (p .lat)
 abbrev pub pointOf : Vect3 → Coo3D
 pointOf v = fromVec3 (v .x) (v .y) (v .z)
 
--- a longitude lies in [0, 2π), a latitude in [−π/2, π/2]
-unfoldable pub isLongitude : Float → Bool
-isLongitude lon = le plusZero lon && lt lon twoPi
-
-unfoldable pub isLatitude : Float → Bool
-isLatitude lat = le (neg halfPi) lat && le lat halfPi
-
--- from angles, which stay as they are in these ranges
+-- from angles, which stay as they are in their ranges
 unfoldable pub fromSphCoo : Float → Float → Coo3D
 fromSphCoo lon lat =
     let v = vec3Of lon lat in

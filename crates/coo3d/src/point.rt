@@ -3,7 +3,7 @@
 use super::lonlat;
 use super::vect3::Vect3;
 ghost use mathlib.Core.Path.{_≡_};
-ghost use Rattle.coo3d.specs.Points.{fromVec3, isLongitude, isLatitude, fromSphCoo, vectOf};
+ghost use Rattle.coo3d.specs.Points.{fromVec3, fromSphCoo, vectOf};
 
 pub struct Coo3D {
     pub x: f64,
@@ -11,18 +11,6 @@ pub struct Coo3D {
     pub z: f64,
     pub lon: f64,
     pub lat: f64,
-}
-
-pub fn is_longitude(lon: f64) -> bool
-    ensures { λ r. ⌜ r ≡ isLongitude lon ⌝ }
-{
-    (0.0 <= lon) & (lon < Coo3D::TWO_PI)
-}
-
-pub fn is_latitude(lat: f64) -> bool
-    ensures { λ r. ⌜ r ≡ isLatitude lat ⌝ }
-{
-    (-Coo3D::HALF_PI <= lat) & (lat <= Coo3D::HALF_PI)
 }
 
 impl Coo3D {
@@ -50,7 +38,7 @@ impl Coo3D {
         ensures { λ r. ⌜ r ≡ fromSphCoo lon lat ⌝ }
     {
         let v = lonlat::vec3_of(lon, lat);
-        if is_longitude(lon) & is_latitude(lat) {
+        if lonlat::is_longitude(lon) & lonlat::is_latitude(lat) {
             Coo3D {
                 x: v.x,
                 y: v.y,

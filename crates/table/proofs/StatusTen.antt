@@ -9,7 +9,7 @@ use mathlib.Core.Path.{_≡_, refl, sym, _∙_}
 use mathlib.Core.Logic.{_↔_}
 use mathlib.Core.Bool.{Bool, true, false, cond, not, _&&_, and-eq-true-iff}
 use mathlib.Core.List.{List}
-use Rattle.coo3d.specs.Points.{isLongitude, isLatitude}
+use Rattle.coo3d.specs.LonLats.{isLongitude, isLatitude}
 use Rattle.coo3d.proofs.Heights.{height-is-number}
 use Rattle.words.specs.Words.{floatAt}
 use Rattle.splits.specs.Splits.{splitOf, lowerEnd, upperEnd, CrossingOfKind5}

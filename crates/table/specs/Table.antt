@@ -5,7 +5,8 @@ use lib.ListN.{length, getD}
 use Prim.Native.Nat.{ℕ, _+_, _*_, _≤_, _<_}
 use mathlib.Core.Bool.{Bool}
 use mathlib.Core.List.{List, [], _∷_}
-use Rattle.coo3d.specs.Points.{isLongitude, isLatitude, fromSphCoo, vectOf}
+use Rattle.coo3d.specs.LonLats.{isLongitude, isLatitude}
+use Rattle.coo3d.specs.Points.{fromSphCoo, vectOf}
 use Rattle.coo3d.specs.declared.point.Coo3D.{Coo3D}
 use Rattle.crossing.specs.Parallels.{intersectParallel}
 use Rattle.words.specs.Words.{floatAt}

@@ -2,10 +2,10 @@
 
 use super::{asin, atan, cos, sin, Class, Ends, TRANSITION_Z};
 use crate::angles::{atan2, sin_cos};
-use crate::random::{ten_to, Random};
+use crate::random::{moved, ten_to, Random};
 use std::f64::consts::{FRAC_PI_2, FRAC_PI_4, PI, TAU};
 
-pub const CLASSES: [Class<Ends>; 24] = [
+pub const CLASSES: [Class<Ends>; 25] = [
     ("uniform", |random| {
         joined(on_sphere(random), on_sphere(random))
     }),
@@ -24,6 +24,7 @@ pub const CLASSES: [Class<Ends>; 24] = [
     ("in one cap", in_one_cap),
     ("from cap to cap", from_cap_to_cap),
     ("across longitude 0", across_longitude_0),
+    ("beside longitude 0", beside_longitude_0),
     ("on quarters' borders", on_borders),
     ("across quarters' borders", across_borders),
     ("at the poles", at_poles),
@@ -374,6 +375,35 @@ fn across_longitude_0(random: &mut Random) -> Ends {
         any_lat(random)
     };
     joined([east, lat1], [TAU - west, lat2])
+}
+
+/// Both ends so close to longitude 0 that a crossing may have a tiny negative y: that angle and 2π come to 2π.
+pub fn beside_longitude_0(random: &mut Random) -> Ends {
+    let lon1 = if random.flip() {
+        random.one_of(&[0.0, -0.0])
+    } else {
+        lon_beside_0(random)
+    };
+    let lat1 = if random.flip() {
+        let lat = random.nudged(transition_latitude());
+        random.signed(lat)
+    } else {
+        random.one_of(&[any_lat, cap_lat])(random)
+    };
+    let lat2 = random.one_of(&[any_lat, cap_lat])(random);
+    joined([lon1, lat1], [lon_beside_0(random), lat2])
+}
+
+/// A subnormal number, another tiny one, or one of the last floats below 2π.
+fn lon_beside_0(random: &mut Random) -> f64 {
+    match random.below(3) {
+        0 => {
+            let digits = random.below(53);
+            f64::from_bits(1 + random.below(1 << digits))
+        }
+        1 => random.power_of_ten(-307.0, -16.0),
+        _ => moved(TAU, -1 - random.below(4) as i64),
+    }
 }
 
 fn border(random: &mut Random) -> f64 {

@@ -5,7 +5,7 @@ use super::{ends, sin, Class, Ends, TRANSITION_Z};
 use crate::commands::{Command, PARALLEL};
 use crate::random::Random;
 
-pub const CLASSES: [Class<Command>; 8] = [
+pub const CLASSES: [Class<Command>; 9] = [
     ("between the ends", |random| {
         let ends = any_ends(random);
         at(ends, between(random, ends))
@@ -32,11 +32,19 @@ pub const CLASSES: [Class<Command>; 8] = [
         let ends = ends::near_meridian(random);
         at(ends, between(random, ends))
     }),
+    ("beside longitude 0", beside_longitude_0),
     ("at the near-meridian limit", |random| {
         let ends = ends::at_meridian_limit(random);
         at(ends, between(random, ends))
     }),
 ];
+
+pub fn beside_longitude_0(random: &mut Random) -> Command {
+    let ends = ends::beside_longitude_0(random);
+    let height = random.one_of(&heights(ends));
+    let heights = [random.nudged(height), between(random, ends)];
+    at(ends, random.one_of(&heights))
+}
 
 fn any_ends(random: &mut Random) -> Ends {
     let (_, draw) = random.one_of(&ends::CLASSES);

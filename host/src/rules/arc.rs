@@ -38,6 +38,7 @@ pub fn reply(command: &Command, (precision, allowance): (f64, u8)) -> Reply {
     Reply {
         content: Content::Slots(slots(&watched, &ends)),
         panic,
+        whole_turns: watched.work.whole_turns,
         ..Reply::with_status(*command, 0)
     }
 }

@@ -60,6 +60,7 @@ pub fn parallel(command: &Command) -> Reply {
             point,
         }),
         panic: crossing.result.as_ref().err().copied(),
+        whole_turns: crossing.work.whole_turns,
         ..Reply::with_status(*command, 0)
     }
 }

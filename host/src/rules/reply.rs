@@ -1,7 +1,8 @@
 //! The reply to one command.
 
 use crate::commands::{Command, SLOT};
-use crate::reference::{Panic, Slot};
+use crate::reference::{Panic, Slot, WholeTurns};
+use std::f64::consts::TAU;
 
 /// For an answer or a panic of the reference's that no kind stands for.
 pub const NO_KIND: u8 = u8::MAX;
@@ -26,6 +27,8 @@ pub struct Reply {
     pub content: Content,
     /// Why the reference gave no answer.
     pub panic: Option<Panic>,
+    /// How often a longitude came to 2π in its work.
+    pub whole_turns: WholeTurns,
 }
 
 impl Reply {
@@ -36,6 +39,7 @@ impl Reply {
             status,
             content: Content::Zeros,
             panic: None,
+            whole_turns: WholeTurns::default(),
         }
     }
 
@@ -49,6 +53,23 @@ impl Reply {
             Content::Slots(slots) => slots.iter().filter(|slot| slot.is_none()).count(),
             _ => 0,
         }
+    }
+
+    /// The longitudes of the points in it.
+    pub fn longitudes(&self) -> Vec<f64> {
+        let slots = match self.content {
+            Content::Slots(slots) => slots.to_vec(),
+            Content::Crossing(slot) => vec![Some(slot)],
+            Content::Zeros | Content::Height(_) => vec![],
+        };
+        let found = slots.into_iter().flatten().filter(|slot| slot.kind == 3);
+        found.map(|slot| f64::from_bits(slot.point[0])).collect()
+    }
+
+    /// Document 02, ask 2: a longitude is "at least 0 and below 2π, or NaN".
+    pub fn is_in_turn(&self) -> bool {
+        let in_turn = |lon: &f64| lon.is_nan() || (0.0..TAU).contains(lon);
+        self.longitudes().iter().all(in_turn)
     }
 
     /// Writes the reply, with zeros for what is not known.

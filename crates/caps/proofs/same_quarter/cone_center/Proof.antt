@@ -10,23 +10,23 @@ cross-product-requires c κs = search needs
 normalized-requires : tie.Need-normalized-requires
 normalized-requires c κs = search needs
 
-lon-requires : tie.Need-lon-requires
-lon-requires c κs = search needs
+lon-of-requires : tie.Need-lon-of-requires
+lon-of-requires c κs = search needs
 
 opposite-requires : tie.Need-opposite-requires
 opposite-requires c κs = search needs
 
-lon-requires-2 : tie.Need-lon-requires-2
-lon-requires-2 c κs = search needs
+lon-of-requires-2 : tie.Need-lon-of-requires-2
+lon-of-requires-2 c κs = search needs
 
 returns : tie.Need-returns
 unfolding centerOf
 returns c =
     simp (
-      ← c .lon2 .ensures,
+      ← c .lon-of2 .ensures .0,
       ← c .before .opposite .ensures,
       c .before .before .if1 .taken,
-      ← c .before .before .before .lon .ensures,
+      ← c .before .before .before .lon-of .ensures .0,
       ← c .before .before .before .before .normalized .ensures,
       ← c .before .before .before .before .before .cross-product .ensures,
     )
@@ -36,7 +36,7 @@ unfolding centerOf
 returns-2 c =
     simp (
       c .if1 .left,
-      ← c .before .lon .ensures,
+      ← c .before .lon-of .ensures .0,
       ← c .before .before .normalized .ensures,
       ← c .before .before .before .cross-product .ensures,
     )
@@ -47,8 +47,8 @@ cone-center-spec =
     (tie.spec
     cross-product-requires
     normalized-requires
-    lon-requires
+    lon-of-requires
     opposite-requires
-    lon-requires-2
+    lon-of-requires-2
     returns
     returns-2)

@@ -9,7 +9,7 @@ lonlat-of-requires c κs = search needs
 
 returns : tie.Need-returns
 unfolding fromVec3
-returns c = simp (← c .lonlat-of .ensures)
+returns c = simp (← c .lonlat-of .ensures .0)
 
 pub from-vec3-spec : {M : Type 1} → statement M
 from-vec3-spec = tie.close (tie.spec lonlat-of-requires returns)

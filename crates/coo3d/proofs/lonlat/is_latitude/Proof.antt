@@ -1,8 +1,8 @@
 -- The code is `isLatitude` written out.
 use mathlib.Core.Path.{refl}
-use Rattle.coo3d.specs.Points.{isLatitude}
-use Rattle.coo3d.proofs.point.is_latitude.Statement.{statement}
-use Rattle.coo3d.proofs.point.is_latitude.Tie as tie
+use Rattle.coo3d.specs.LonLats.{isLatitude}
+use Rattle.coo3d.proofs.lonlat.is_latitude.Statement.{statement}
+use Rattle.coo3d.proofs.lonlat.is_latitude.Tie as tie
 
 returns : tie.Need-returns
 unfolding isLatitude

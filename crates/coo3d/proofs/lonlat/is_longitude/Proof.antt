@@ -1,8 +1,8 @@
 -- The code is `isLongitude` written out.
 use mathlib.Core.Path.{refl}
-use Rattle.coo3d.specs.Points.{isLongitude}
-use Rattle.coo3d.proofs.point.is_longitude.Statement.{statement}
-use Rattle.coo3d.proofs.point.is_longitude.Tie as tie
+use Rattle.coo3d.specs.LonLats.{isLongitude}
+use Rattle.coo3d.proofs.lonlat.is_longitude.Statement.{statement}
+use Rattle.coo3d.proofs.lonlat.is_longitude.Tie as tie
 
 returns : tie.Need-returns
 unfolding isLongitude
