@@ -6,6 +6,7 @@ mod stack;
 
 use crate::commands::{ALLOWANCE, PRECISION, REPLY_BUFFER};
 use crate::finder;
+use crate::inputs::BESIDE_LONGITUDE_0;
 use crate::job_files::{self, Maker};
 use crate::outcomes::{print_row, Outcomes};
 use crate::reference::{self, Panic};
@@ -27,6 +28,8 @@ struct Tally {
     found: u64,
     unreachable: u64,
     unwraps: u64,
+    /// Longitudes that came to 2π.
+    turns: u64,
 }
 
 impl Tally {
@@ -36,6 +39,8 @@ impl Tally {
         self.found += u64::from(has_point(&reply.content));
         self.unreachable += u64::from(reply.panic == Some(Panic::Unreachable));
         self.unwraps += u64::from(reply.panic == Some(Panic::UnwrapOfNone));
+        let turns = reply.whole_turns.iter().flatten();
+        self.turns += turns.map(|count| u64::from(*count)).sum::<u64>();
     }
 
     fn print(&self, name: &str) {
@@ -45,6 +50,7 @@ impl Tally {
             self.found,
             self.unreachable,
             self.unwraps,
+            self.turns,
         ];
         print_row(name, numbers);
     }
@@ -136,7 +142,8 @@ impl Comparison {
         let mut at = 0;
         for reply in &expected.replies {
             let bytes = self.reply.buffer()[at..at + reply.width()].to_vec();
-            let agrees = reply.agrees(&bytes) && reply.is_in_turn();
+            let difference = difference(reply, &bytes);
+            let agrees = difference.is_none();
             if !matches!(reply.command.code, PRECISION | ALLOWANCE) {
                 let class = classes.next().copied();
                 let class = class.unwrap_or(self.tallies.len() - 1);
@@ -145,12 +152,11 @@ impl Comparison {
             }
             self.unknown_slots += reply.unknown_slots() as u64;
             self.turns.count(reply);
-            if agrees {
-                self.outcomes.count(&bytes);
-            } else {
+            if let Some(difference) = difference {
                 differs = true;
-                let difference = format!("{}: {bytes:02x?}, not {reply:x?}", reply.command);
-                self.show(job, buffer, &difference);
+                self.show(job, buffer, &format!("{}: {difference}", reply.command));
+            } else {
+                self.outcomes.count(&bytes);
             }
             at += reply.width();
         }
@@ -227,7 +233,14 @@ impl Comparison {
     fn print(&self) {
         print_row(
             "",
-            ["compared", "differ", "found", "unreachable", "unwraps"],
+            [
+                "compared",
+                "differ",
+                "found",
+                "unreachable",
+                "unwraps",
+                "turns",
+            ],
         );
         let damaged = "any job, in damaged files".to_string();
         let names = self.maker.names().into_iter().chain([damaged]);
@@ -257,14 +270,23 @@ impl Comparison {
         let missing = if count < LONG_RUN {
             Vec::new()
         } else {
-            let (outcomes, turns) = (self.outcomes.missing(), self.turns.missing());
-            [outcomes, turns, self.depends.missing()].concat()
+            let turns = [self.turns.missing(), self.classes_without_turns()].concat();
+            [self.outcomes.missing(), turns, self.depends.missing()].concat()
         };
         for outcome in &missing {
             println!("jobs: FAILED, not seen: {outcome}");
         }
         let (agree, suffices) = (self.depends.verdict(), self.stack_suffices());
         self.files_differ == 0 && agree && missing.is_empty() && suffices
+    }
+
+    /// The classes that are made for longitudes of a whole turn and had none.
+    fn classes_without_turns(&self) -> Vec<String> {
+        let classes = self.maker.names().into_iter().zip(&self.tallies);
+        let without =
+            classes.filter(|(name, tally)| name.ends_with(BESIDE_LONGITUDE_0) && tally.turns == 0);
+        let named = without.map(|(name, _)| format!("{name}: a longitude of a whole turn"));
+        named.collect()
     }
 
     fn stack_suffices(&self) -> bool {
@@ -276,6 +298,17 @@ impl Comparison {
             println!("stack: FAILED, include/finder.h asks too little of a host");
         }
         used <= promised
+    }
+}
+
+/// How these bytes differ from the reply, or a longitude in it from what document 02 promises.
+fn difference(reply: &Reply, bytes: &[u8]) -> Option<String> {
+    if !reply.agrees(bytes) {
+        Some(format!("{bytes:02x?}, not {reply:x?}"))
+    } else if !reply.is_in_turn() {
+        Some(format!("a longitude is not in the turn, {reply:x?}"))
+    } else {
+        None
     }
 }
 

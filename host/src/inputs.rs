@@ -13,6 +13,9 @@ use crate::commands::{Command, ARC};
 use crate::random::Random;
 use crate::rules::{self, Settings};
 
+/// The classes that are made for a longitude of a whole turn.
+pub const BESIDE_LONGITUDE_0: &str = "beside longitude 0";
+
 /// Longitude and latitude of one end of an arc, and of the other.
 pub type Ends = [f64; 4];
 

@@ -25,8 +25,8 @@ pub const LONGITUDES: [&str; 2] = ["lonlat_of", "UnitVect3::lonlat"];
 const LONLAT_OF: usize = 0;
 const LONLAT: usize = 1;
 /// Where a longitude has come to 2π, the sizes of y are told apart at these.
-pub const SIZES_OF_Y: [f64; 3] = [f64::MIN_POSITIVE, 1e-100, 1e-30];
-/// How often each of them has come to 2π, by the size of y.
+pub const SIZES_OF_Y: [f64; 2] = [f64::MIN_POSITIVE, 1e-30];
+/// How often each function has come to 2π, by the size of y.
 pub type WholeTurns = [[u32; SIZES_OF_Y.len() + 1]; LONGITUDES.len()];
 
 /// How far the reference has come with a slot, as document 01's kinds: 0 no piece, 1 a piece, 2 a walk, 3 a point, 4 no crossing. A crossing

@@ -14,15 +14,15 @@ use std::fmt;
 
 const SEED: u64 = 0x5374_6F72;
 const FILES: usize = 2_200;
-/// At least so many jobs for each kind in each slot and each longitude beside 0, and at most so many tried for it.
+/// At least so many of each kind in each slot, of whole turns in either longitude function and of longitudes −0, and at most so many jobs tried for them.
 const OF_A_KIND: u64 = 4;
 const MOST_TRIED: usize = 2_000_000;
 /// The file starts with a text of this length.
 const TEXT_LENGTH: usize = 512;
 const TEXT: &str = "Stored answers of the special point finder, made by `cargo run --release --offline --manifest-path host/Cargo.toml \
 --bin make_stored_answers` from document 01's rules (host/src/rules.rs) and the reference, cds-astro/cds-healpix-rust 4e5e5bc0f3 with \
-document 01's angle functions and document 02's changes. After these 512 bytes come records, little-endian: length of the job file, length of the reply buffer, \
-number, place, bytes written (u32 each); the job file; the bytes written.";
+document 01's angle functions and document 02's changes. After these 512 bytes come records, little-endian: length of the job file, length \
+of the reply buffer, number, place, bytes written (u32 each); the job file; the bytes written.";
 
 pub struct Stored {
     pub bytes: Vec<u8>,

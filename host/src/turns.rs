@@ -28,11 +28,12 @@ impl Turns {
         [a, b, self.minus_zeros]
     }
 
-    /// The least of these totals, and the least of those that a reply adds to.
+    /// The least of these totals.
     pub fn least(&self) -> u64 {
         self.totals().into_iter().min().unwrap_or(0)
     }
 
+    /// The least of those that a reply adds to.
     pub fn least_of(&self, reply: &Reply) -> u64 {
         let mut alone = Turns::default();
         alone.count(reply);
@@ -42,11 +43,10 @@ impl Turns {
     }
 
     pub fn print(&self) {
-        let [_, sizes @ ..] = SIZES_OF_Y.map(|size| format!("y to {size:e}"));
-        let [a, b] = sizes;
+        let [_, tiny] = SIZES_OF_Y.map(|size| format!("y to {size:e}"));
         print_row(
             "a longitude of a whole turn, given as 0",
-            ["y subnormal", &a, &b, "y above"],
+            ["y subnormal", &tiny, "y above"],
         );
         for (function, counts) in LONGITUDES.iter().zip(self.whole) {
             print_row(function, counts);

@@ -1,5 +1,5 @@
--- Document 02, ask 2, of what the finder replies: the longitude of a point that is found is at least 0 and below 2π, or NaN. Definitions and the claim;
--- `proofs/Longitudes.antt` proves it.
+-- Document 02, ask 2, of what the finder replies: the longitude of a point that is found is at least 0 and below 2π, or NaN. It is said of each answer, whose bits
+-- `answerBytes` (table) then writes. Definitions and the claim; `proofs/Longitudes.antt` proves it.
 use Prim.Native.Nat.{ℕ}
 use mathlib.Core.List.{List}
 use Rattle.coo3d.specs.LonLats.{InTurn}

@@ -15,6 +15,7 @@ turn-examples =
       a-step-below = refl;
       half-a-step = refl;
       tiny = refl;
+      least = refl;
       minus-zero = refl;
       not-a-number = refl;
       first = refl;

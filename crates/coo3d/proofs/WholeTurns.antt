@@ -1,5 +1,5 @@
--- The claims of specs/WholeTurns.antt. An angle of `atan2` lies from −π to π (crate bounds), so it is never 2π. With 2π added a negative one lies from π to 2π, and one
--- that is not 2π then lies below it; any other one lies from 0 to π.
+-- The claims of specs/WholeTurns.antt. An angle of `atan2` lies from −π to π (crate bounds), so it is never 2π. With 2π added a negative one lies from 0 to 2π, and one
+-- that is not 2π then lies below it; any other angle lies from 0 to π.
 use mathlib.Core.Path.{_≡_, refl, subst, sym}
 use mathlib.Core.Logic.{_⊎_, inl, inr, ⊎-elim}
 use mathlib.Core.Bool.{Bool, true, false, _&&_, _||_, cond}

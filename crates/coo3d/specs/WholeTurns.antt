@@ -15,7 +15,7 @@ use Rattle.coo3d.specs.Quarters.{quarterOf}
 pub record WholeTurns : Type 0 where
   -- "at least 0 and below 2π, or NaN", whatever the floats
   pub longitude : (x y : Float) → InTurn (lonOf x y)
-  -- the source's `lonlat_of` has a branch for an angle of exactly 2π; there is none, so one definition serves both of its functions
+  -- the source's `lonlat_of` has a branch for an angle of exactly 2π; no angle is, so one definition serves both of its functions
   pub no-angle-of-a-turn : (y x : Float) → eq (atan2Of y x) twoPi ≡ false
   -- "Quarter numbers are then 0 to 3": of every f64 in the turn, and of every point that is made
   pub quarter : (lon : Float) → T (fits binary64 lon) → InTurn lon → quarterOf lon < 4
@@ -29,10 +29,12 @@ abbrev pub lastOfTurn : Float
 lastOfTurn = ofBits binary64 0x4019_21fb_5444_2d17
 
 pub record TurnExamples : Type 0 where
-  -- of x = 1: a y of −2⁻⁵⁰ is the whole step below 2π, −2⁻⁵¹ half of it, which comes to 2π, as a tiny one does; of −0 it is −0
+  -- of x = 1: a y of −2⁻⁵⁰ is the whole step below 2π, −2⁻⁵¹ half of it, which comes to 2π, and so does −1e-300; the angle of the least y is −0, and that is no
+  -- negative longitude
   pub a-step-below : lonOf one (neg (ofBits binary64 0x3cd0_0000_0000_0000)) ≡ lastOfTurn
   pub half-a-step : lonOf one (neg (ofBits binary64 0x3cc0_0000_0000_0000)) ≡ plusZero
   pub tiny : lonOf one (neg (ofBits binary64 0x01a5_6e1f_c2f8_f359)) ≡ plusZero
+  pub least : lonOf one (neg (ofBits binary64 1)) ≡ neg plusZero
   pub minus-zero : lonOf one (neg plusZero) ≡ neg plusZero
   pub not-a-number : lonOf nan one ≡ nan
   -- each of the quarters, at its first f64; the last ends below 2π

@@ -24,7 +24,7 @@ pub fn is_latitude(lat: f64) -> bool
     (-Coo3D::HALF_PI <= lat) & (lat <= Coo3D::HALF_PI)
 }
 
-// A tiny negative angle and 2π round to 2π: the longitude is then 0.
+// The sum of a tiny negative angle and 2π rounds to 2π: the longitude is then 0.
 pub fn lon_of(x: f64, y: f64) -> f64
     ensures { λ r. ⌜ (r ≡ lonOf x y) × InTurn r ⌝ }
 {

@@ -1,6 +1,6 @@
 //! The ends of arcs.
 
-use super::{asin, atan, cos, sin, Class, Ends, TRANSITION_Z};
+use super::{asin, atan, cos, sin, Class, Ends, BESIDE_LONGITUDE_0, TRANSITION_Z};
 use crate::angles::{atan2, sin_cos};
 use crate::random::{moved, ten_to, Random};
 use std::f64::consts::{FRAC_PI_2, FRAC_PI_4, PI, TAU};
@@ -24,7 +24,7 @@ pub const CLASSES: [Class<Ends>; 25] = [
     ("in one cap", in_one_cap),
     ("from cap to cap", from_cap_to_cap),
     ("across longitude 0", across_longitude_0),
-    ("beside longitude 0", beside_longitude_0),
+    (BESIDE_LONGITUDE_0, beside_longitude_0),
     ("on quarters' borders", on_borders),
     ("across quarters' borders", across_borders),
     ("at the poles", at_poles),
@@ -385,7 +385,7 @@ pub fn beside_longitude_0(random: &mut Random) -> Ends {
         lon_beside_0(random)
     };
     let lat1 = if random.flip() {
-        let lat = random.nudged(transition_latitude());
+        let lat = moved(transition_latitude(), random.one_of(&[-4, -3, -2, 2, 3, 4]));
         random.signed(lat)
     } else {
         random.one_of(&[any_lat, cap_lat])(random)
@@ -396,12 +396,12 @@ pub fn beside_longitude_0(random: &mut Random) -> Ends {
 
 /// A subnormal number, another tiny one, or one of the last floats below 2π.
 fn lon_beside_0(random: &mut Random) -> f64 {
-    match random.below(3) {
+    match random.below(4) {
         0 => {
             let digits = random.below(53);
             f64::from_bits(1 + random.below(1 << digits))
         }
-        1 => random.power_of_ten(-307.0, -16.0),
+        1 | 2 => random.power_of_ten(-307.0, -16.0),
         _ => moved(TAU, -1 - random.below(4) as i64),
     }
 }

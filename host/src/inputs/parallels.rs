@@ -1,9 +1,9 @@
 //! Arcs and the heights at which they are crossed.
 
 use super::cones::boundary_height;
-use super::{ends, sin, Class, Ends, TRANSITION_Z};
+use super::{ends, sin, Class, Ends, BESIDE_LONGITUDE_0, TRANSITION_Z};
 use crate::commands::{Command, PARALLEL};
-use crate::random::Random;
+use crate::random::{moved, Random};
 
 pub const CLASSES: [Class<Command>; 9] = [
     ("between the ends", |random| {
@@ -32,17 +32,19 @@ pub const CLASSES: [Class<Command>; 9] = [
         let ends = ends::near_meridian(random);
         at(ends, between(random, ends))
     }),
-    ("beside longitude 0", beside_longitude_0),
+    (BESIDE_LONGITUDE_0, beside_longitude_0),
     ("at the near-meridian limit", |random| {
         let ends = ends::at_meridian_limit(random);
         at(ends, between(random, ends))
     }),
 ];
 
+/// At a height next to that of the first end, or at any between the two.
 pub fn beside_longitude_0(random: &mut Random) -> Command {
     let ends = ends::beside_longitude_0(random);
-    let height = random.one_of(&heights(ends));
-    let heights = [random.nudged(height), between(random, ends)];
+    let [z1, z2] = heights(ends);
+    let towards = if z1 < z2 { 1 } else { -1 };
+    let heights = [moved(z1, towards), between(random, ends)];
     at(ends, random.one_of(&heights))
 }
 
