@@ -8,7 +8,7 @@ use host::{reference, rules};
 
 const SEED: u64 = 0x5465_7374;
 const PAIRS: usize = 150;
-const ALONE: usize = 60;
+const ALONE: usize = 120;
 
 /// The exit status and what is printed.
 fn depends(files: &[&str]) -> (i32, String) {
@@ -132,7 +132,7 @@ fn the_least_allowance_of_each_reply() {
         answers[usize::from(settles)] += 1;
     }
     assert!(
-        answers.iter().all(|count| *count > ALONE / 10),
+        answers.iter().all(|count| *count > ALONE / 20),
         "{answers:?}"
     );
 }
