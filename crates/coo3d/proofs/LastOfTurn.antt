@@ -13,7 +13,7 @@ use lib.Ieee.Fits.{down-pos, and-i, and-l, and-r}
 use lib.Ieee.Scale.{finite}
 use Rattle.angles.specs.Floats.{_⊘_, plusZero}
 use Rattle.angles.specs.Constants.{halfPi, twoPi}
-use Rattle.bounds.proofs.Order.{not-less, le-trans-at, le→below, below→le}
+use Rattle.bounds.proofs.Order.{not-less, less-le, finite-between, le-trans-at, le→below, below→le}
 use Rattle.bounds.proofs.Bounds.{Within, itself, number, div-within}
 use Rattle.coo3d.specs.LonLats.{isLongitude}
 use Rattle.coo3d.specs.Quarters.{quarterOf}
@@ -54,16 +54,11 @@ value-at-most-last (fin false (suc m) (negsuc k)) n f h =
     let t = at-most-last (suc m) (suc k) short (omega arith) in
     below→le (fin false (suc m) (negsuc k)) lastOfTurn tt tt (omega arith)
 
-number-in-turn : (x : Float) → T (le plusZero x) → T (lt x twoPi) → T (finite x)
-unfolding le lt ofBits
-number-in-turn nan l h = l
-number-in-turn (inf true) l h = l
-number-in-turn (inf false) l h = h
-number-in-turn (fin s m e) l h = tt
-
 pub up-to-last : {x : Float} → T (fits binary64 x) → T (le plusZero x) → T (lt x twoPi) → Within plusZero lastOfTurn x
 unfolding ofBits
-up-to-last {x} f l h = record { from = tt; to = tt; low = l; high = value-at-most-last x (number-in-turn x l h) f h }
+up-to-last {x} f l h =
+    let number = finite-between plusZero x twoPi tt tt l (less-le x twoPi (is-true (lt x twoPi) h)) in
+    record { from = tt; to = tt; low = l; high = value-at-most-last x number f h }
 
 pub longitude-in-turn : {x : Float} → Within plusZero lastOfTurn x → isLongitude x ≡ true
 unfolding isLongitude ofBits le

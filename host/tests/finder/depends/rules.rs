@@ -132,7 +132,7 @@ fn the_least_allowance_of_each_reply() {
         answers[usize::from(settles)] += 1;
     }
     assert!(
-        answers.iter().all(|count| *count > ALONE / 20),
+        answers.iter().all(|count| *count > ALONE / 10),
         "{answers:?}"
     );
 }
