@@ -6,12 +6,12 @@
 
 static const size_t widths[FINDER_CODES] = {
     FINDER_REPLY_END,         FINDER_REPLY_PRECISION,  FINDER_REPLY_ALLOWANCE, FINDER_REPLY_ARC,
-    FINDER_REPLY_CONE_IN_EQR, FINDER_REPLY_CONE_IN_PC, FINDER_REPLY_PARALLEL,
+    FINDER_REPLY_CONE_IN_EQR, FINDER_REPLY_CONE_IN_PC, FINDER_REPLY_PARALLEL,  FINDER_REPLY_TWO_ARCS,
 };
-static const char *const names[FINDER_CODES] = {"end", "precision", "allowance", "arc", "equatorial cone", "polar cone", "parallel"};
+static const char *const names[FINDER_CODES] = {"end", "precision", "allowance", "arc", "equatorial cone", "polar cone", "parallel", "two arcs"};
 static const char *const slots[FINDER_SLOTS] = {"south cap, first", "south cap, second", "equator", "north cap, first", "north cap, second"};
 static const char *const kinds[] = {"no such piece", "no walk", "height rejected", "found", "height not between the ends", "neither root passes"};
-/* From 0 on: refusals of files, then of commands. */
+/* From 0 on: refusals of files, then of commands, none of which has the number 11. */
 static const char *const reasons[] = {
     "accepted",
     "the file has no byte or more than 16,384",
@@ -24,6 +24,8 @@ static const char *const reasons[] = {
     "a north or east byte is neither 0 nor 1",
     "an operand is outside its range",
     "the arc can't be split",
+    "",
+    "the arcs' planes can't be told apart, or an arc has none",
 };
 
 static double float_at(const uint8_t *bytes)
@@ -57,9 +59,10 @@ static void say_cone(const uint8_t *answer)
         printf(", height %.12f", float_at(answer + 2));
 }
 
-static void say_parallel(const uint8_t *answer)
+static void say_crossing(uint8_t code, const uint8_t *answer)
 {
-    printf("\n    %s", kinds[answer[0]]);
+    int apart = code == FINDER_CODE_TWO_ARCS && answer[0] == FINDER_KIND_NO_ROOT;
+    printf("\n    %s", apart ? "the arcs don't cross" : kinds[answer[0]]);
     if (answer[0] == FINDER_KIND_FOUND)
         say_point(answer + 1);
 }
@@ -72,8 +75,8 @@ static void say(const uint8_t *reply)
         say_arc(reply + 2);
     if (status == FINDER_STATUS_ACCEPTED && (code == FINDER_CODE_CONE_IN_EQR || code == FINDER_CODE_CONE_IN_PC))
         say_cone(reply + 2);
-    if (status == FINDER_STATUS_ACCEPTED && code == FINDER_CODE_PARALLEL)
-        say_parallel(reply + 2);
+    if (status == FINDER_STATUS_ACCEPTED && (code == FINDER_CODE_PARALLEL || code == FINDER_CODE_TWO_ARCS))
+        say_crossing(code, reply + 2);
     printf("\n");
 }
 

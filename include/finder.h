@@ -34,9 +34,9 @@
 #include <stdint.h>
 
 /*
- * The stack of a call. Measured, not proved: the comparison of job files has met at most 3,432 bytes, return address and `fmod` included, which
+ * The stack of a call. Measured, not proved: the comparison of job files has met at most 3,544 bytes, return address and `fmod` included, which
  * is also the longest chain of calls by the sizes of the frames; here is more than twice as much. A dynamic linker that looks `fmod` up at its
- * first call takes a part of this stack too (4,776 bytes in all where it was tried); linked statically or with -z now there is no such look-up.
+ * first call takes a part of this stack too (about 6,400 bytes in all where it was tried); linked statically or with -z now there is no such look-up.
  */
 #define FINDER_STACK_BYTES 8192
 
@@ -56,8 +56,10 @@
  *   CONE_IN_EQR  z, z0, radius; north (byte)                                kind, steps (bytes), z
  *   CONE_IN_PC   z, lon mod pi/2, z0, radius; east (byte), north (byte)     kind, steps (bytes), z
  *   PARALLEL     lon1, lat1, lon2, lat2, z                                  kind (byte), lon, lat
+ *   TWO_ARCS     lon1, lat1, lon2, lat2, lon3, lat3, lon4, lat4             kind (byte), lon, lat
  *
  * All operands are f64 but for those with (byte). Each command but END gets a reply: its code, a status (one byte each), and the answer.
+ * TWO_ARCS is document 02's, the customer's paper with requests: where the arc from 1 to 2 crosses that from 3 to 4.
  */
 #define FINDER_CODE_END 0
 #define FINDER_CODE_PRECISION 1
@@ -66,8 +68,9 @@
 #define FINDER_CODE_CONE_IN_EQR 4
 #define FINDER_CODE_CONE_IN_PC 5
 #define FINDER_CODE_PARALLEL 6
+#define FINDER_CODE_TWO_ARCS 7
 /* The first code past the table. */
-#define FINDER_CODES 7
+#define FINDER_CODES 8
 
 /* The bytes of the operands, after the code. */
 #define FINDER_OPERANDS_END 0
@@ -77,6 +80,7 @@
 #define FINDER_OPERANDS_CONE_IN_EQR 25
 #define FINDER_OPERANDS_CONE_IN_PC 34
 #define FINDER_OPERANDS_PARALLEL 40
+#define FINDER_OPERANDS_TWO_ARCS 64
 
 /* The bytes of a reply, code and status included. */
 #define FINDER_REPLY_END 0
@@ -86,6 +90,7 @@
 #define FINDER_REPLY_CONE_IN_EQR 12
 #define FINDER_REPLY_CONE_IN_PC 12
 #define FINDER_REPLY_PARALLEL 19
+#define FINDER_REPLY_TWO_ARCS 19
 
 /* What finder_run answers: 0, or the number of the file's refusal. */
 #define FINDER_ACCEPTED 0
@@ -95,25 +100,29 @@
 #define FINDER_REFUSAL_AFTER_END 4 /* bytes follow FINDER_CODE_END; place of the first */
 #define FINDER_REFUSAL_BUFFER 5    /* the reply buffer is shorter than all replies; place: the length needed */
 
-/* The status of a reply: 0, or why the command is refused. Then the rest of its reply is zero, the settings stay, and the file goes on. */
+/*
+ * The status of a reply: 0, or why the command is refused. Then the rest of its reply is zero, the settings stay, and the file goes on. No command
+ * has the status 11.
+ */
 #define FINDER_STATUS_ACCEPTED 0
-#define FINDER_STATUS_UNSET 6      /* an arc or a cone before both a precision and an allowance have been accepted */
-#define FINDER_STATUS_NOT_FINITE 7 /* a float operand isn't finite */
-#define FINDER_STATUS_FLAG 8       /* a north or east byte is neither 0 nor 1 */
-#define FINDER_STATUS_RANGE 9      /* an operand is outside its range */
-#define FINDER_STATUS_SPLIT 10     /* an arc's crossing with the height -T or T (2/3), needed to split it, gives no point */
+#define FINDER_STATUS_UNSET 6         /* an arc or a cone before both a precision and an allowance have been accepted */
+#define FINDER_STATUS_NOT_FINITE 7    /* a float operand isn't finite */
+#define FINDER_STATUS_FLAG 8          /* a north or east byte is neither 0 nor 1 */
+#define FINDER_STATUS_RANGE 9         /* an operand is outside its range */
+#define FINDER_STATUS_SPLIT 10        /* an arc's crossing with the height -T or T (2/3), needed to split it, gives no point */
+#define FINDER_STATUS_NO_CANDIDATE 12 /* the cross product of two arcs' cross products has norm zero or NaN */
 
 /*
- * The kind of a slot, a cone's answer or a parallel's. Longitude, latitude and a cone's z stand at FINDER_KIND_FOUND only, the steps of the walk
- * at the kinds from 2 on in a slot or a cone's answer; all else is zero. A longitude is at least 0 and below 2 pi, 6.283185307179586, or a NaN;
- * it may be -0. A NaN is written 7FF8000000000000.
+ * The kind of a slot, a cone's answer, a parallel's or that for two arcs. Longitude, latitude and a cone's z stand at FINDER_KIND_FOUND only, the
+ * steps of the walk at the kinds from 2 on in a slot or a cone's answer; all else is zero. A longitude is at least 0 and below 2 pi,
+ * 6.283185307179586, or a NaN; it may be -0. A NaN is written 7FF8000000000000.
  */
 #define FINDER_KIND_NO_PIECE 0    /* the arc has no such piece */
 #define FINDER_KIND_NO_WALK 1     /* longitudes equal or signs the same, no walk */
 #define FINDER_KIND_REJECTED 2    /* the height is rejected after the walk */
 #define FINDER_KIND_FOUND 3       /* a point */
 #define FINDER_KIND_NOT_BETWEEN 4 /* the height is not strictly between the ends */
-#define FINDER_KIND_NO_ROOT 5     /* neither root passes the tests */
+#define FINDER_KIND_NO_ROOT 5     /* neither root passes the tests; of two arcs: neither candidate, they don't cross */
 
 /* The slots of an arc's answer, in their order. A slot is kind, steps (one byte each), lon, lat (f64). */
 #define FINDER_SLOT_SOUTH_FIRST 0

@@ -1,4 +1,4 @@
-//! Document 01's table of commands, and commands as bytes.
+//! Document 01's table of commands with those that document 02 adds, and commands as bytes.
 
 use std::f64::consts::{FRAC_PI_2, TAU};
 use std::fmt;
@@ -10,6 +10,7 @@ pub const ARC: u8 = 0x03;
 pub const EQUATORIAL_CONE: u8 = 0x04;
 pub const POLAR_CONE: u8 = 0x05;
 pub const PARALLEL: u8 = 0x06;
+pub const TWO_ARCS: u8 = 0x07;
 
 /// The most bytes of a job file.
 pub const MOST_BYTES: usize = 16_384;
@@ -79,6 +80,7 @@ pub fn row(code: u8) -> Option<Row> {
         EQUATORIAL_CONE => (&[Z, Z, Radius], 1, 2 + 10),
         POLAR_CONE => (&[Z, LonModHalfPi, Z, Radius], 2, 2 + 10),
         PARALLEL => (&[Lon, Lat, Lon, Lat, Z], 0, 2 + 17),
+        TWO_ARCS => (&[Lon, Lat, Lon, Lat, Lon, Lat, Lon, Lat], 0, 2 + 17),
         _ => return None,
     };
     Some(Row {
@@ -92,7 +94,7 @@ pub fn row(code: u8) -> Option<Row> {
 #[derive(Clone, Copy, Debug)]
 pub struct Command {
     pub code: u8,
-    pub floats: [f64; 5],
+    pub floats: [f64; 8],
     pub bytes: [u8; 2],
 }
 
@@ -100,7 +102,7 @@ impl Command {
     pub fn new<const F: usize, const B: usize>(code: u8, floats: [f64; F], bytes: [u8; B]) -> Self {
         let mut command = Command {
             code,
-            floats: [0.0; 5],
+            floats: [0.0; 8],
             bytes: [0; 2],
         };
         command.floats[..F].copy_from_slice(&floats);

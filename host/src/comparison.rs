@@ -1,20 +1,24 @@
-//! The finder against document 01's rules and the reference, job file by job file.
+//! The finder against document 01's rules and the reference, job file by job file; two arcs against document 02's rule and plain geometry.
 
 pub mod depends;
+mod geometry;
 mod guarded;
 mod stack;
 
 use crate::commands::{ALLOWANCE, PRECISION, REPLY_BUFFER};
+use crate::crossings::Crossings;
 use crate::finder;
-use crate::inputs::BESIDE_LONGITUDE_0;
+use crate::inputs::{two_arcs, BESIDE_LONGITUDE_0, TWO_ARCS};
 use crate::job_files::{self, Maker};
 use crate::outcomes::{print_row, Outcomes};
 use crate::reference::{self, Panic};
 use crate::rules::{self, Answer, Content, Reply};
 use crate::turns::Turns;
 use depends::Depends;
+use geometry::Geometry;
 use guarded::{Guarded, Side};
 use stack::Stack;
+use std::collections::HashMap;
 
 const SEED: u64 = 0x4A6F_6273;
 const MOST_SHOWN: u64 = 10;
@@ -30,6 +34,7 @@ struct Tally {
     unwraps: u64,
     /// Longitudes that came to 2π.
     turns: u64,
+    crossings: Crossings,
 }
 
 impl Tally {
@@ -41,6 +46,7 @@ impl Tally {
         self.unwraps += u64::from(reply.panic == Some(Panic::UnwrapOfNone));
         let turns = reply.whole_turns.iter().flatten();
         self.turns += turns.map(|count| u64::from(*count)).sum::<u64>();
+        self.crossings.count(reply);
     }
 
     fn print(&self, name: &str) {
@@ -74,6 +80,7 @@ struct Comparison {
     total: Tally,
     outcomes: Outcomes,
     turns: Turns,
+    geometry: Geometry,
     /// Slots that the reference did not come to.
     unknown_slots: u64,
     files: u64,
@@ -95,6 +102,7 @@ impl Comparison {
             total: Tally::default(),
             outcomes: Outcomes::default(),
             turns: Turns::default(),
+            geometry: Geometry::default(),
             unknown_slots: 0,
             files: 0,
             files_differ: 0,
@@ -142,7 +150,8 @@ impl Comparison {
         let mut at = 0;
         for reply in &expected.replies {
             let bytes = self.reply.buffer()[at..at + reply.width()].to_vec();
-            let difference = difference(reply, &bytes);
+            let difference =
+                difference(reply, &bytes).or_else(|| self.geometry.check(&reply.command, &bytes));
             let agrees = difference.is_none();
             if !matches!(reply.command.code, PRECISION | ALLOWANCE) {
                 let class = classes.next().copied();
@@ -250,6 +259,8 @@ impl Comparison {
         self.total.print("all");
         self.outcomes.print();
         self.turns.print();
+        self.total.crossings.print();
+        self.geometry.print();
         print_row(
             "slots that the reference did not come to",
             [self.unknown_slots],
@@ -267,17 +278,38 @@ impl Comparison {
             self.files, self.files_differ
         );
         println!("jobs: {compared} compared, {differ} differ");
-        let missing = if count < LONG_RUN {
-            Vec::new()
-        } else {
-            let turns = [self.turns.missing(), self.classes_without_turns()].concat();
-            [self.outcomes.missing(), turns, self.depends.missing()].concat()
+        let missing = match count {
+            ..LONG_RUN => Vec::new(),
+            _ => self.missing(),
         };
         for outcome in &missing {
             println!("jobs: FAILED, not seen: {outcome}");
         }
         let (agree, suffices) = (self.depends.verdict(), self.stack_suffices());
         self.files_differ == 0 && agree && missing.is_empty() && suffices
+    }
+
+    /// What is due and was never seen.
+    fn missing(&self) -> Vec<String> {
+        let turns = [self.turns.missing(), self.classes_without_turns()].concat();
+        let crossings = [
+            self.total.crossings.missing(),
+            self.classes_without_events(),
+            self.geometry.missing(),
+        ];
+        let others = [self.outcomes.missing(), turns, self.depends.missing()];
+        [others.concat(), crossings.concat()].concat()
+    }
+
+    /// The classes of two arcs that never came to what they are made for.
+    fn classes_without_events(&self) -> Vec<String> {
+        let tallies: HashMap<_, _> = self.maker.names().into_iter().zip(&self.tallies).collect();
+        let classes = two_arcs::CLASSES.iter();
+        let missing = classes.flat_map(|((name, _), due)| {
+            let name = format!("{TWO_ARCS}, {name}");
+            tallies[&name].crossings.missing_of(&name, due)
+        });
+        missing.collect()
     }
 
     /// The classes that are made for longitudes of a whole turn and had none.

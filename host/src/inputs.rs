@@ -4,6 +4,7 @@ pub mod cones;
 pub mod ends;
 mod operands;
 pub mod parallels;
+pub mod two_arcs;
 
 pub use crate::reference::TRANSITION_Z;
 pub use operands::NOT_FINITE;
@@ -15,6 +16,8 @@ use crate::rules::{self, Settings};
 
 /// The classes that are made for a longitude of a whole turn.
 pub const BESIDE_LONGITUDE_0: &str = "beside longitude 0";
+/// What the names of the classes of code 07 begin with.
+pub const TWO_ARCS: &str = "two arcs";
 
 /// Longitude and latitude of one end of an arc, and of the other.
 pub type Ends = [f64; 4];
@@ -52,6 +55,9 @@ pub fn classes() -> Vec<Inputs> {
     classes.push(at_a_step("polar cone", cones::advised_in_pc));
     for (name, draw) in parallels::CLASSES {
         classes.push(class("parallel", name, draw));
+    }
+    for ((name, draw), _) in two_arcs::CLASSES {
+        classes.push(class(TWO_ARCS, name, draw));
     }
     for (name, change) in operands::CHANGES {
         let changed = move |random: &mut Random| {
@@ -98,14 +104,12 @@ fn at_a_step(of: &str, draw: fn(&mut Random) -> Command) -> Inputs {
 
 /// A job of any code, within the ranges.
 pub fn any(random: &mut Random) -> Command {
-    match random.below(4) {
-        0 => {
-            let (_, draw) = random.one_of(&ends::CLASSES);
-            arc(random, draw)
-        }
+    match random.below(5) {
+        0 => arc(random, ends::any),
         1 => random.one_of(&cones::EQUATORIAL).1(random),
         2 => random.one_of(&cones::POLAR).1(random),
-        _ => random.one_of(&parallels::CLASSES).1(random),
+        3 => random.one_of(&parallels::CLASSES).1(random),
+        _ => two_arcs::any(random),
     }
 }
 

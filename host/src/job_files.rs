@@ -1,12 +1,14 @@
 //! Random job files: jobs of all classes with changes of the settings between them, and damaged files.
 
-use crate::commands::{Command, ARC, END, EQUATORIAL_CONE, MOST_BYTES, PARALLEL, POLAR_CONE};
+use crate::commands::{
+    Command, ARC, END, EQUATORIAL_CONE, MOST_BYTES, PARALLEL, POLAR_CONE, TWO_ARCS,
+};
 use crate::inputs::{self, Input, Inputs, NOT_FINITE};
 use crate::program::replies;
 use crate::random::Random;
 
 /// Room for a job with the settings before it, for 00 and for what pads a file.
-const ROOM: usize = 80;
+const ROOM: usize = 104;
 
 #[derive(Default)]
 pub struct JobFile {
@@ -124,7 +126,7 @@ impl Maker {
             7 => bytes.extend((0..tail).map(|_| random.below(256) as u8)),
             _ => {
                 let length = random.below(60);
-                bytes = (0..length).map(|_| random.below(8) as u8).collect();
+                bytes = (0..length).map(|_| random.below(9) as u8).collect();
             }
         }
         bytes
@@ -138,13 +140,18 @@ pub fn places(job: &[u8]) -> Vec<usize> {
     places.chain([job.len() - 1]).collect()
 }
 
-/// An arc from the equator into the north cap, both cones and a parallel, each with a point.
-pub fn jobs() -> [Command; 4] {
+/// An arc from the equator into the north cap, both cones, a parallel and two arcs, each with a point.
+pub fn jobs() -> [Command; 5] {
     [
         Command::new(ARC, [4.06, 0.59, 4.33, 0.83], []),
         Command::new(EQUATORIAL_CONE, [0.276, 0.199, 0.1], [1]),
         Command::new(POLAR_CONE, [0.887, 0.7, 0.841, 0.1], [1, 1]),
         Command::new(PARALLEL, [4.06, 0.59, 4.33, 0.83, 0.7], []),
+        Command::new(
+            TWO_ARCS,
+            [4.06, 0.59, 4.33, 0.83, 4.31, 0.61, 4.05, 0.79],
+            [],
+        ),
     ]
 }
 
@@ -186,7 +193,7 @@ pub fn of_length(length: usize) -> [Vec<u8>; 5] {
     let mut after_end = padded(&every_code(), length - 1);
     after_end.push(END);
     let mut unknown = valid.clone();
-    unknown[length - 1] = 0x07;
+    unknown[length - 1] = 0x08;
     [valid, without_end, after_end, unknown, vec![END; length]]
 }
 

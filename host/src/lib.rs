@@ -1,9 +1,14 @@
 //! The functions proved in Rattle, as Rust calls them, and what they are compared with.
 
+// Document 02's rule for two arcs stands in either build of the reference.
+#![allow(clippy::duplicate_mod)]
+
 pub mod angles;
 pub mod commands;
 #[cfg(reference)]
 pub mod comparison;
+#[cfg(reference)]
+pub mod crossings;
 #[cfg(reference)]
 pub mod example;
 pub mod finder;

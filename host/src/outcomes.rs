@@ -1,10 +1,12 @@
 //! How often each outcome was seen, and those that a long run must have seen.
 
-use crate::commands::{ALLOWANCE, ARC, EQUATORIAL_CONE, PARALLEL, POLAR_CONE, PRECISION, SLOT};
+use crate::commands::{
+    ALLOWANCE, ARC, EQUATORIAL_CONE, PARALLEL, POLAR_CONE, PRECISION, SLOT, TWO_ARCS,
+};
 use std::fmt::Display;
 
 /// What is counted by kinds: the slots of arcs with status 0, then the other jobs.
-const ROWS: [&str; 8] = [
+const ROWS: [&str; 9] = [
     "south cap, first",
     "south cap, second",
     "equator",
@@ -13,6 +15,7 @@ const ROWS: [&str; 8] = [
     "equatorial cone",
     "polar cone",
     "parallel",
+    "two arcs",
 ];
 
 /// The kinds that each row can have.
@@ -25,23 +28,25 @@ const KINDS: [&[usize]; ROWS.len()] = [
     &[2, 3],
     &[2, 3],
     &[3, 4, 5],
+    &[3, 5],
 ];
 
 /// The statuses that each code can get.
-const STATUSES: [(u8, &[u8]); 6] = [
+const STATUSES: [(u8, &[u8]); 7] = [
     (PRECISION, &[0, 7]),
     (ALLOWANCE, &[0]),
     (ARC, &[0, 6, 7, 9, 10]),
     (EQUATORIAL_CONE, &[0, 6, 7, 8, 9]),
     (POLAR_CONE, &[0, 6, 7, 8, 9]),
     (PARALLEL, &[0, 7, 9]),
+    (TWO_ARCS, &[0, 7, 9, 12]),
 ];
 
 #[derive(Default)]
 pub struct Outcomes {
     kinds: [[u64; 6]; ROWS.len()],
     /// By code and status.
-    statuses: [[u64; 11]; 7],
+    statuses: [[u64; 13]; 8],
     /// Files by their number.
     numbers: [u64; 6],
     two_walks: u64,
@@ -107,7 +112,8 @@ impl Outcomes {
         for (name, count) in self.caps() {
             print_row(name, [count]);
         }
-        let statuses = [0, 6, 7, 8, 9, 10];
+        // No job has the status 11, which is the error of the program `patterns`.
+        let statuses = [0, 6, 7, 8, 9, 10, 12];
         print_row("", statuses.map(|status| format!("status {status}")));
         for (code, _) in STATUSES {
             let counts = statuses.map(|status| self.statuses[usize::from(code)][status]);
@@ -151,6 +157,7 @@ fn kinds_of(reply: &[u8]) -> impl Iterator<Item = (usize, usize)> + '_ {
         (EQUATORIAL_CONE, 0) => 5..6,
         (POLAR_CONE, 0) => 6..7,
         (PARALLEL, 0) => 7..8,
+        (TWO_ARCS, 0) => 8..9,
         _ => 0..0,
     };
     let kinds = reply.iter().skip(2).step_by(SLOT).copied();

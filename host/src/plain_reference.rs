@@ -2,5 +2,8 @@
 
 include!(concat!(env!("OUT_DIR"), "/plain_reference.rs"));
 
+#[path = "rules/two_arcs.rs"]
+pub mod two_arcs;
+
 pub use special_points_finder::*;
 pub use sph_geom::coo3d::*;

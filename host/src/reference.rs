@@ -5,6 +5,9 @@ const _: () = assert!(!cfg!(debug_assertions));
 
 include!(concat!(env!("OUT_DIR"), "/reference.rs"));
 
+#[path = "rules/two_arcs.rs"]
+pub mod two_arcs;
+
 pub use special_points_finder::*;
 pub use sph_geom::coo3d::*;
 

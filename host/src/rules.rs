@@ -1,4 +1,5 @@
-//! Document 01's "Jobs and replies" and "Refusals": what a job file gets. What follows code and status comes from the reference.
+//! Document 01's "Jobs and replies" and "Refusals": what a job file gets. What follows code and status comes from the reference, for two arcs
+//! from document 02's rule.
 
 mod arc;
 mod others;
@@ -7,7 +8,8 @@ mod reply;
 pub use reply::{Content, Reply};
 
 use crate::commands::{
-    row, Command, ALLOWANCE, ARC, END, EQUATORIAL_CONE, MOST_BYTES, PARALLEL, POLAR_CONE, PRECISION,
+    row, Command, ALLOWANCE, ARC, END, EQUATORIAL_CONE, MOST_BYTES, PARALLEL, POLAR_CONE,
+    PRECISION, TWO_ARCS,
 };
 use crate::reference;
 
@@ -151,6 +153,7 @@ fn answer(command: &Command, settings: &Settings) -> Reply {
         (EQUATORIAL_CONE, Some(walk)) => others::equatorial_cone(command, walk),
         (POLAR_CONE, Some(walk)) => others::polar_cone(command, walk),
         (PARALLEL, _) => others::parallel(command),
+        (TWO_ARCS, _) => others::two_arcs(command),
         _ => Reply::with_status(*command, 0),
     }
 }

@@ -2,7 +2,8 @@
 
 use crate::angles;
 use crate::commands::{Command, Float, ALLOWANCE, ARC, END, PARALLEL, REPLY_BUFFER};
-use crate::inputs::{self, Input, NOT_FINITE};
+use crate::crossings::Crossings;
+use crate::inputs::{self, two_arcs, Input, NOT_FINITE};
 use crate::job_files::{self, Maker};
 use crate::outcomes::Outcomes;
 use crate::random::moved;
@@ -14,14 +15,17 @@ use std::fmt;
 
 const SEED: u64 = 0x5374_6F72;
 const FILES: usize = 2_200;
-/// At least so many of each kind in each slot, of whole turns in either longitude function and of longitudes −0, and at most so many jobs tried for them.
+/// At least so many of each kind in each slot, of whole turns in either longitude function, of longitudes −0 and of each event of two arcs, and at most
+/// so many jobs tried for them.
 const OF_A_KIND: u64 = 4;
+/// So many of each class of two arcs.
+const OF_TWO_ARCS: usize = 6;
 const MOST_TRIED: usize = 2_000_000;
 /// The file starts with a text of this length.
 const TEXT_LENGTH: usize = 512;
 const TEXT: &str = "Stored answers of the special point finder, made by `cargo run --release --offline --manifest-path host/Cargo.toml \
---bin make_stored_answers` from document 01's rules (host/src/rules.rs) and the reference, cds-astro/cds-healpix-rust 4e5e5bc0f3 with \
-document 01's angle functions and document 02's changes. After these 512 bytes come records, little-endian: length of the job file, length \
+--bin make_stored_answers` from the rules of documents 01 and 02 (host/src/rules.rs) and the reference, cds-astro/cds-healpix-rust 4e5e5bc0f3 \
+with document 01's angle functions and document 02's changes. After these 512 bytes come records, little-endian: length of the job file, length \
 of the reply buffer, number, place, bytes written (u32 each); the job file; the bytes written.";
 
 pub struct Stored {
@@ -29,6 +33,7 @@ pub struct Stored {
     files: usize,
     outcomes: Outcomes,
     turns: Turns,
+    crossings: Crossings,
     maker: Maker,
 }
 
@@ -40,6 +45,7 @@ pub fn make() -> Result<Stored, String> {
         files: 0,
         outcomes: Outcomes::default(),
         turns: Turns::default(),
+        crossings: Crossings::default(),
         maker: Maker::new(SEED),
     };
     stored.add_examples();
@@ -50,8 +56,10 @@ pub fn make() -> Result<Stored, String> {
     stored.add_allowances();
     stored.add_kinds();
     stored.add_turns();
+    stored.add_two_arcs();
+    stored.add_crossings();
     stored.add_mixed();
-    let mut missing = stored.outcomes.missing();
+    let mut missing = [stored.outcomes.missing(), stored.crossings.missing()].concat();
     if stored.turns.least() == 0 {
         missing.push("longitudes of a whole turn and of −0".to_string());
     }
@@ -83,6 +91,7 @@ impl Stored {
             reply.write(&mut replies);
             self.outcomes.count(&replies[at..]);
             self.turns.count(reply);
+            self.crossings.count(reply);
         }
         let number = usize::from(answer.number);
         for number in [job.len(), buffer, number, answer.place, replies.len()] {
@@ -269,10 +278,37 @@ impl Stored {
         }
     }
 
+    /// Two arcs of each class, which need no settings; a refused pair leaves those that are there.
+    fn add_two_arcs(&mut self) {
+        let (precision, allowance) = (Command::precision(1e-9), Command::allowance(20));
+        let [arc, ..] = job_files::jobs();
+        for ((_, draw), _) in two_arcs::CLASSES {
+            let pairs = [(); OF_TWO_ARCS].map(|()| draw(&mut self.maker.random));
+            for pair in pairs {
+                self.add_commands(&[pair]);
+            }
+            self.add_commands(&[&[precision, allowance][..], &pairs, &[arc]].concat());
+        }
+    }
+
+    /// Two arcs of any class, of which those are kept that bring an event of which there are too few.
+    fn add_crossings(&mut self) {
+        for _ in 0..MOST_TRIED {
+            if self.crossings.least() >= OF_A_KIND {
+                return;
+            }
+            let pair = two_arcs::any(&mut self.maker.random);
+            let reply = rules::reply(&pair, &Settings::default());
+            if self.crossings.least_of(&reply) < OF_A_KIND {
+                self.add_commands(&[pair]);
+            }
+        }
+    }
+
     /// Files of some jobs of all classes, and damaged ones, with buffers of several lengths.
     fn add_mixed(&mut self) {
         while self.files < FILES {
-            let most = self.maker.random.one_of(&[150, 220, 300]);
+            let most = self.maker.random.one_of(&[180, 250, 340]);
             let file = self.maker.mixed(most);
             if self.maker.random.below(4) == 0 {
                 let damaged = self.maker.damaged(&file);

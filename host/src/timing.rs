@@ -1,13 +1,13 @@
-//! `finder_run` against the reference, on the same jobs.
+//! `finder_run` against the reference, on the same jobs; for two arcs, which the reference doesn't know, against document 02's rule over its vectors.
 
 use crate::commands::{
-    Command, ARC, END, EQUATORIAL_CONE, MOST_BYTES, PARALLEL, POLAR_CONE, REPLY_BUFFER,
+    Command, ARC, END, EQUATORIAL_CONE, MOST_BYTES, PARALLEL, POLAR_CONE, REPLY_BUFFER, TWO_ARCS,
 };
 use crate::inputs::ends::{camera_edges, transition_latitude};
-use crate::inputs::{cones, parallels, Class, Ends};
+use crate::inputs::{cones, parallels, two_arcs::edges_that_cross, Class, Ends};
 use crate::plain_reference::{
     arc_special_points, cone_special_point_in_eqr, cone_special_point_in_pc, intersect_parallel,
-    Coo3D,
+    two_arcs, Coo3D,
 };
 use crate::programs::median;
 use crate::random::Random;
@@ -22,10 +22,10 @@ const FILES: usize = 60;
 const ROUNDS: usize = 51;
 const PRECISION: f64 = 1e-9;
 const ALLOWANCE: u8 = 20;
-/// Room for a parallel, the widest command, and for 00.
-const ROOM: usize = 42;
+/// Room for two arcs, the widest command, and for 00.
+const ROOM: usize = 66;
 
-const CLASSES: [Class<Command>; 6] = [
+const CLASSES: [Class<Command>; 7] = [
     ("arcs on the equator", |random| {
         edge(random, |[_, lat1, _, lat2]| {
             lat1.abs().max(lat2.abs()) < transition_latitude()
@@ -42,6 +42,7 @@ const CLASSES: [Class<Command>; 6] = [
     ("cones in the equator", cones::advised_in_eqr),
     ("cones in the caps", cones::advised_in_pc),
     ("parallels, settings between them", parallel_or_setting),
+    ("two camera edges that cross", edges_that_cross),
 ];
 
 /// A camera's edge of up to 20 degrees of which this holds.
@@ -82,7 +83,10 @@ fn file(random: &mut Random, draw: fn(&mut Random) -> Command) -> File {
             continue;
         }
         command.write(&mut bytes);
-        if matches!(command.code, ARC | EQUATORIAL_CONE | POLAR_CONE | PARALLEL) {
+        if matches!(
+            command.code,
+            ARC | EQUATORIAL_CONE | POLAR_CONE | PARALLEL | TWO_ARCS
+        ) {
             jobs.push(command);
         }
     }
@@ -119,7 +123,7 @@ fn time_reference(jobs: &[Command]) -> f64 {
 }
 
 fn run_reference(job: &Command) {
-    let [a, b, c, d, e] = job.floats;
+    let [a, b, c, d, e, ..] = job.floats;
     let [byte1, byte2] = job.bytes.map(|byte| byte == 1);
     match job.code {
         ARC => {
@@ -139,6 +143,10 @@ fn run_reference(job: &Command) {
         PARALLEL => {
             let (p1, p2) = (Coo3D::from_sph_coo(a, b), Coo3D::from_sph_coo(c, d));
             black_box(intersect_parallel(&p1, &p2, e).map(|vector| vector.lonlat()));
+        }
+        TWO_ARCS => {
+            let crossing = two_arcs::crossing(&job.floats);
+            black_box(crossing.expect("two edges that cross have candidates"));
         }
         code => unreachable!("no class has code {code:02x}"),
     }

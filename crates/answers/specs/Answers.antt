@@ -30,7 +30,7 @@ unfoldable pub kindAlone : ℕ → Numbers
 kindAlone k = numbers k plusZero plusZero
 
 -- 0 no such piece; 1 longitudes equal or signs the same, no walk; 2 height rejected after the walk; 3 found; 4 height not strictly between
--- the ends; 5 neither root passes. Longitude, latitude and a cone's z stand at kind 3 only
+-- the ends; 5 neither root passes, of two arcs neither candidate (document 02, ask 3). Longitude, latitude and a cone's z stand at kind 3 only
 unfoldable pub numbersOf : Answer → Numbers
 numbersOf NoPiece = kindAlone 0
 numbersOf NoWalk = kindAlone 1

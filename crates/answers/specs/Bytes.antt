@@ -34,6 +34,6 @@ slotsBytes s =
     slotBytes (s .south .first) ++ slotBytes (s .south .second) ++ slotBytes (s .equator)
     ++ slotBytes (s .north .first) ++ slotBytes (s .north .second)
 
--- a parallel: kind, lon, lat
+-- a parallel, or two arcs: kind, lon, lat
 unfoldable pub crossingBytes : Answer → List ℕ
 crossingBytes a = let n = numbersOf a in pointBytes (n .kind) (n .first) (n .second)

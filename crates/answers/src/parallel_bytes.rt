@@ -1,4 +1,4 @@
-// The bytes of a parallel's answer.
+// The bytes of the answer to a parallel or to two arcs.
 
 use super::answer::Answer;
 use words::output;
@@ -20,7 +20,7 @@ pub fn put_crossing(answer: Answer, out: &mut [u8])
     requires { ⌜ length (now out) ≡ 17 ⌝ }
     ensures { λ _. ⌜ now (out .exit) ≡ crossingBytes answer ⌝ }
 {
-    // A parallel is `Found`, `NotBetween` or `NoRoot`; the other cases have the bytes of `numbersOf` all the same.
+    // A parallel is `Found`, `NotBetween` or `NoRoot`, and so are two arcs; the other cases have the bytes of `numbersOf` all the same.
     match answer {
         Answer::NoPiece => put_point(out, 0, 0.0, 0.0),
         Answer::NoWalk => put_point(out, 1, 0.0, 0.0),

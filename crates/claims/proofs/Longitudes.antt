@@ -9,6 +9,9 @@ use Rattle.coo3d.proofs.WholeTurns.{whole-turns}
 use Rattle.crossing.specs.Parallels.{strictlyBetween, crossingOf, intersectParallel}
 use Rattle.crossing.specs.declared.parallel.Crossing.{Crossing}
 use Rattle.crossing.specs.declared.parallel.Crossing.the-variants as crossing
+use Rattle.two_arcs.specs.TwoArcs.{intersectArcs}
+use Rattle.two_arcs.specs.declared.meeting.Meeting.{Meeting}
+use Rattle.two_arcs.specs.declared.meeting.Meeting.the-variants.{At, Nowhere, NoCandidate}
 use Rattle.newton.specs.Walks.{walkOf}
 use Rattle.newton.specs.Regions.{mirroredOf}
 use Rattle.answers.specs.Answers.{withoutWalk, crossedOf}
@@ -26,7 +29,7 @@ use Rattle.splits.specs.declared.split.Split.the-variants.{Into, Failed}
 use Rattle.special_points_finder.specs.Arcs.{slotsAt}
 use Rattle.table.specs.States.{Given, givenOf}
 use Rattle.table.specs.Rows.{Row, Work}
-use Rattle.table.specs.Table.{firstEnd, secondEnd, arcWork, end, precision, allowance, arc, coneInEqr, coneInPc, parallel, rowOf}
+use Rattle.table.specs.Table.{firstEnd, secondEnd, firstArc, secondArc, arcWork, meetingWork, end, precision, allowance, arc, coneInEqr, coneInPc, parallel, twoArcs, rowOf}
 use Rattle.table.specs.Turns.{refusalOf, workOf, replyIn, turnOf}
 use Rattle.table.proofs.Cases.{by-row, by-test}
 use Rattle.claims.specs.Longitudes.{FoundInTurn, RepliedInTurn, LongitudesReplied}
@@ -99,6 +102,16 @@ of-parallel : OfRow parallel
 unfolding RepliedInTurn parallel replyIn
 of-parallel n g b = of-crossing _
 
+of-meeting : (n : ℕ) (m : Meeting) → RepliedInTurn (replyIn n (meetingWork m))
+unfolding FoundInTurn RepliedInTurn meetingWork replyIn
+of-meeting n (At v) = of-crossing (crossing.At v)
+of-meeting n Nowhere = tt
+of-meeting n NoCandidate = tt
+
+of-two-arcs : OfRow twoArcs
+unfolding twoArcs
+of-two-arcs n g b = of-meeting n (intersectArcs (firstArc b) (secondArc b))
+
 -- ---- a reply
 of-work : (n : ℕ) (r : Row) → OfRow r → (g : Given) (b : List ℕ) → RepliedInTurn (replyIn n (workOf r g b))
 unfolding RepliedInTurn workOf replyIn
@@ -109,6 +122,6 @@ unfolding turnOf
 longitudes-replied s code b =
     of-work (s .allowance) (rowOf code)
     (by-row (λ (k : ℕ) (r : Row). OfRow r)
-    (of-end, (of-precision, (of-allowance, (of-arc, (of-cone-in-eqr, (of-cone-in-pc, (of-parallel, tt)))))))
+    (of-end, (of-precision, (of-allowance, (of-arc, (of-cone-in-eqr, (of-cone-in-pc, (of-parallel, (of-two-arcs, tt))))))))
     (λ k. of-end) code)
     (givenOf s) b

@@ -1,11 +1,12 @@
 // One turn, by the code.
 
 use super::allowance_turn;
-use super::arc_turn;
 use super::cone_in_eqr_turn;
 use super::cone_in_pc_turn;
-use super::parallel_turn;
 use super::precision_turn;
+use arc_turns::arc_turn;
+use arc_turns::parallel_turn;
+use arc_turns::two_arcs_turn;
 use table::reply::Turn;
 use table::state::State;
 ghost use mathlib.Core.Path.{_≡_};
@@ -23,6 +24,7 @@ pub fn turn(state: State, code: u8, operands: &[u8]) -> Turn
         3 => arc_turn::turn(state, operands),
         4 => cone_in_eqr_turn::turn(state, operands),
         5 => cone_in_pc_turn::turn(state, operands),
-        _ => parallel_turn::turn(state, operands),
+        6 => parallel_turn::turn(state, operands),
+        _ => two_arcs_turn::turn(state, operands),
     }
 }

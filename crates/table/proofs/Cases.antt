@@ -1,9 +1,11 @@
 -- The two ways that a test can go, and what holds of each row of the table.
+use lib.Dec.{T}
+use lib.Ieee.Fits.{and-l, and-r}
 use lib.ListN.{getD}
 use Prim.Native.Nat.{ℕ, zero, suc, _≤_, _<_}
 use native.Mathlib.Omega.{arith}
 use mathlib.Core.Path.{_≡_, refl}
-use mathlib.Core.Bool.{Bool, true, false, cond}
+use mathlib.Core.Bool.{Bool, true, false, cond, _&&_}
 use mathlib.Core.List.{List, [], _∷_}
 use Rattle.table.specs.Rows.{Row}
 use Rattle.table.specs.Table.{end, table, rowOf}
@@ -30,6 +32,20 @@ each P (r ∷ rs) a d (suc code) = each (λ (n : ℕ) (s : Row). P (suc n) s) rs
 pub by-row : (P : ℕ → Row → Type 0) → Each P table → ((n : ℕ) → P n end) → (code : ℕ) → P code (rowOf code)
 unfolding rowOf
 by-row P a d code = each P table a d code
+
+-- a test that holds of each row, as antt computes it over the whole table
+abbrev pub all : (Row → Bool) → List Row → Bool
+all test [] = true
+all test (r ∷ rs) = test r && all test rs
+
+pub by-computing : (test : Row → Bool) → T (all test table) → T (test end) → (code : ℕ) → T (test (rowOf code))
+unfolding rowOf
+by-computing test a e code = at table a code
+  where
+    at : (rs : List Row) → T (all test rs) → (n : ℕ) → T (test (getD rs n end))
+    at [] t n = e
+    at (r ∷ rs) t zero = and-l (test r) (all test rs) t
+    at (r ∷ rs) t (suc n) = at rs (and-r (test r) (all test rs) t) n
 
 -- the last arm of a match on a code: it is none of those before, so the last
 abbrev pub Rest : ℕ → ℕ → Type 0

@@ -1,7 +1,8 @@
 pub mod Cases
-mod Widths
-mod Laws
+pub mod Widths
+pub mod Laws
 pub mod ReplyLengths
 pub mod CommandAllowances
 pub mod Steps
+pub mod Statuses
 pub mod StatusTen

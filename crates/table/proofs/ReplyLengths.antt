@@ -1,25 +1,32 @@
 -- A reply is as long as the table says for its code, refused or not: `ReplyLength` (specs/Turns.antt).
-use lib.Dec.{eqb}
+use lib.ListN.{length-replicate}
 use Prim.Native.Nat.{ℕ}
 use native.Mathlib.Omega.{arith}
+use mathlib.Core.Path.{refl}
 use mathlib.Core.List.{List}
+use Rattle.answers.proofs.AnswerLengths.{length-cone, length-slots, length-crossing}
 use Rattle.table.specs.States.{givenOf}
-use Rattle.table.specs.Rows.{Work}
+use Rattle.table.specs.Rows.{Form, Work, refused, accepted, slots, cone, crossing}
 use Rattle.table.specs.Table.{rowOf, answerWidth}
-use Rattle.table.specs.Turns.{refusalOf, workOf, replyIn, turnOf, Fits, replyBytes, replyOf, ReplyLength}
+use Rattle.table.specs.Turns.{workOf, replyIn, turnOf, answerBytes, Fits, replyBytes, replyOf, ReplyLength}
 use Rattle.table.specs.declared.state.State.{State}
-use Rattle.table.proofs.Cases.{by-test}
-use Rattle.table.proofs.Laws.{law, fits-refused}
+use Rattle.table.proofs.Laws.{HasForm, form-of}
+
+fits : (f : Form) (n : ℕ) (w : Work) → HasForm f w → Fits (replyIn n w) (f .width)
+unfolding replyIn answerBytes
+fits f n (refused number) h = length-replicate (f .width) 0
+fits f n accepted h = rw h refl
+fits f n (slots plan) h = rw h (length-slots _)
+fits f n (cone plan) h = rw h (length-cone _)
+fits f n (crossing a) h = rw h (length-crossing _)
 
 module _ (s : State) (code : ℕ) (b : List ℕ) where
   pub reply-fits : Fits (turnOf (rowOf code) s b .reply) (answerWidth code)
-  unfolding turnOf workOf replyIn answerWidth
+  unfolding turnOf answerWidth
   reply-fits =
       let r = rowOf code in
-      let n = s .allowance in
-      by-test (λ (w : Work). Fits (replyIn n w) (r .answer .width)) (eqb (refusalOf r (givenOf s) b) 0)
-      (λ e. law code .fits n (givenOf s) b)
-      (λ e. fits-refused (refusalOf r (givenOf s) b) (r .answer .width))
+      let g = givenOf s in
+      fits (r .answer) (s .allowance) (workOf r g b) (form-of code g b)
 
 pub length-reply : ReplyLength
 unfolding replyOf replyBytes

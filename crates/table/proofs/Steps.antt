@@ -1,9 +1,10 @@
--- The step bytes of a reply are the step counts of its slots' walks, and stand inside it: the claims of specs/Steps.antt, row by row.
-use lib.Dec.{eqb, lit≤}
-use lib.Ieee.{Float}
+-- The step bytes of a reply are the step counts of its slots' walks, and stand inside it: the claims of specs/Steps.antt.
+use lib.Dec.{T, ltb, ltb→lt}
+use lib.Ieee.Fits.{and-l, and-r}
 use lib.ListN.{getD, replicate}
 use Prim.Native.Nat.{ℕ, zero, suc}
 use mathlib.Core.Path.{_≡_, refl}
+use mathlib.Core.Bool.{Bool, true, _&&_}
 use mathlib.Core.List.{List, [], _∷_}
 use Rattle.words.specs.Words.{bytes, floatBytes}
 use Rattle.answers.specs.declared.answer.Answer.{Answer}
@@ -11,14 +12,13 @@ use Rattle.answers.specs.Bytes.{heightBytes, walkedBytes, coneBytes, slotBytes,
 use Rattle.plans.specs.Plans.{slotsOf, stepsOf, stepsAt, capSlotsAt}
 use Rattle.plans.specs.declared.plan.Plan.{Plan}
 use Rattle.special_points_finder.specs.Arcs.{ArcPlan, slotsAt}
-use Rattle.splits.specs.declared.split.Split.{Split}
-use Rattle.splits.specs.declared.split.Split.the-variants.{Into, Failed}
-use Rattle.table.specs.States.{Given, givenOf}
-use Rattle.table.specs.Rows.{Form, noAnswer, fiveSlots, kindStepsZ, kindLonLat, Row, Work, refused, accepted, slots, cone, crossing}
-use Rattle.table.specs.Table.{arcWork, end, precision, allowance, arc, coneInEqr, coneInPc, parallel, rowOf, answerWidth}
-use Rattle.table.specs.Turns.{refusalOf, workOf, replyIn, plansIn, turnOf, statusOf, answerBytes, replyBytes, replyOf}
+use Rattle.table.specs.States.{givenOf}
+use Rattle.table.specs.Rows.{Form, fiveSlots, kindStepsZ, kindLonLat, Work, refused, accepted, slots, cone, crossing}
+use Rattle.table.specs.Table.{precision, allowance, arc, coneInEqr, coneInPc, parallel, twoArcs, rowOf, answerWidth}
+use Rattle.table.specs.Turns.{workOf, replyIn, plansIn, turnOf, statusOf, answerBytes, replyBytes, replyOf}
 use Rattle.table.specs.Steps.{bytesAt, stepBytes, StepBytes, AllBelow, StepsWithin}
-use Rattle.table.proofs.Cases.{by-test, by-row}
+use Rattle.table.proofs.Cases.{by-computing}
+use Rattle.table.proofs.Laws.{HasForm, form-of}
 
 -- of what a command comes to, with an allowance, where the reply to its code has this form
 abbrev Steps : Form → ℕ → ℕ → Work → Type 0
@@ -62,50 +62,34 @@ steps-crossing : (code n : ℕ) (a : Answer) → Steps kindLonLat code n (crossi
 unfolding plansIn slotsOf stepsOf
 steps-crossing code n a i = refl
 
--- ---- row by row
-steps-arc : (n : ℕ) (s : Split) (p : Float) → Steps fiveSlots 3 n (arcWork s p)
-unfolding arcWork
-steps-arc n (Into r) p = steps-slots 3 n _
-steps-arc n Failed p = steps-refused fiveSlots 3 n 10
+steps-in : (f : Form) (code n : ℕ) (w : Work) → HasForm f w → Steps f code n w
+steps-in f code n (refused number) h = steps-refused f code n number
+steps-in f code n accepted h = steps-accepted f code n
+steps-in f code n (slots p) h = rw h (steps-slots code n p)
+steps-in f code n (cone p) h = rw h (steps-cone code n p)
+steps-in f code n (crossing a) h = rw h (steps-crossing code n a)
 
-abbrev StepsOf : ℕ → Row → Type 0
-StepsOf code r = (n : ℕ) (g : Given) (b : List ℕ) → Steps (r .answer) code n (r .work g b)
-
-steps-of : (code : ℕ) → StepsOf code (rowOf code)
-unfolding precision allowance arc coneInEqr coneInPc parallel
-steps-of =
-    let end-of : (code : ℕ) → StepsOf code end = λ code n g b. steps-accepted noAnswer code n in
-    by-row StepsOf (
-      end-of 0,
-      (
-        λ n g b. steps-accepted noAnswer 1 n,
-        (
-          λ n g b. steps-accepted noAnswer 2 n,
-          (
-            λ n g b. steps-arc n _ _,
-            (
-              λ n g b. steps-cone 4 n _,
-              (λ n g b. steps-cone 5 n _, (λ n g b. steps-crossing 6 n _, tt)),
-            ),
-          ),
-        ),
-      ),
-    )
-    end-of
-
+-- ---- every command
 pub step-bytes : StepBytes
-unfolding replyOf turnOf workOf
+unfolding replyOf turnOf
 step-bytes s code b =
     let r = rowOf code in
     let g = givenOf s in
-    by-test (Steps (r .answer) code (s .allowance)) (eqb (refusalOf r g b) 0)
-    (λ e. steps-of code (s .allowance) g b)
-    (λ e. steps-refused (r .answer) code (s .allowance) (refusalOf r g b))
+    steps-in (r .answer) code (s .allowance) (workOf r g b) (form-of code g b)
+
+abbrev within : ℕ → List ℕ → Bool
+within width [] = true
+within width (place ∷ places) = ltb place width && within width places
+
+all-within : (width : ℕ) (places : List ℕ) → T (within width places) → AllBelow width places
+all-within width [] t = tt
+all-within width (place ∷ places) t =
+    let first = ltb place width in
+    let rest = within width places in
+    (ltb→lt place width (and-l first rest t), all-within width places (and-r first rest t))
 
 pub steps-within : StepsWithin
-unfolding answerWidth precision allowance arc coneInEqr coneInPc parallel
-steps-within =
-    let in-cone : AllBelow 10 (1 ∷ []) = (lit≤ tt, tt) in
-    by-row (λ n r. AllBelow (r .answer .width) (r .answer .steps))
-    (tt, (tt, (tt, ((lit≤ tt, (lit≤ tt, (lit≤ tt, (lit≤ tt, (lit≤ tt, tt))))), (in-cone, (in-cone, (tt, tt)))))))
-    (λ n. tt)
+unfolding answerWidth precision allowance arc coneInEqr coneInPc parallel twoArcs
+steps-within code =
+    let f = rowOf code .answer in
+    all-within (f .width) (f .steps) (by-computing (λ r. within (r .answer .width) (r .answer .steps)) tt tt code)

@@ -1,4 +1,4 @@
--- What a row of document 01's table of commands says. Definitions only; the rows stand in Table.antt.
+-- What a row of the table of commands says (document 01, "Jobs and replies"). Definitions only; the rows stand in Table.antt.
 use lib.Dec.{leb}
 use lib.Ieee.{Float, neg, lt, le}
 use Prim.Native.Nat.{ℕ}
@@ -34,7 +34,7 @@ anyByte b = true
 
 -- What a command comes to, before any walk and so without an allowance.
 pub data Work : Type 0 where
-  -- refused: by 6 to 9 (`workOf`), or by its row, 10
+  -- refused: by 6 to 9 (`workOf`), or by its row, 10 or 12
   refused : ℕ → Work
   -- no answer after code and status
   accepted : Work

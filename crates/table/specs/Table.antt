@@ -1,4 +1,4 @@
--- Document 01, "Jobs and replies": the table of commands, a row for each code. Definitions only.
+-- Document 01, "Jobs and replies": the table of commands, a row for each code, and that of document 02's ask 3. Definitions only.
 use lib.Dec.{eqb, ltb}
 use lib.Ieee.{Float}
 use lib.ListN.{length, getD}
@@ -9,8 +9,14 @@ use Rattle.coo3d.specs.LonLats.{isLongitude, isLatitude}
 use Rattle.coo3d.specs.Points.{fromSphCoo, vectOf}
 use Rattle.coo3d.specs.declared.point.Coo3D.{Coo3D}
 use Rattle.crossing.specs.Parallels.{intersectParallel}
+use Rattle.crossing.specs.declared.parallel.Crossing.the-variants as parallels
+use Rattle.two_arcs.specs.TwoArcs.{edge, intersectArcs}
+use Rattle.two_arcs.specs.declared.edge.Edge.{Edge}
+use Rattle.two_arcs.specs.declared.meeting.Meeting.{Meeting}
+use Rattle.two_arcs.specs.declared.meeting.Meeting.the-variants.{At, Nowhere, NoCandidate}
 use Rattle.words.specs.Words.{floatAt}
 use Rattle.answers.specs.Answers.{crossedOf}
+use Rattle.answers.specs.declared.answer.Answer.the-variants.{NoRoot}
 use Rattle.special_points_finder.specs.Arcs.{arcPlan}
 use Rattle.special_points_finder.specs.Cones.{conePlanInEqr, conePlanInPc}
 use Rattle.splits.specs.Splits.{splitOf}
@@ -26,10 +32,24 @@ firstEnd b = fromSphCoo (floatAt b 0) (floatAt b 1)
 abbrev pub secondEnd : List ℕ → Coo3D
 secondEnd b = fromSphCoo (floatAt b 2) (floatAt b 3)
 
+-- "Code 07 takes two arcs as eight floats" (ask 3)
+abbrev pub firstArc : List ℕ → Edge
+firstArc b = edge (vectOf (firstEnd b)) (vectOf (secondEnd b))
+
+abbrev pub secondArc : List ℕ → Edge
+secondArc b =
+    edge (vectOf (fromSphCoo (floatAt b 4) (floatAt b 5))) (vectOf (fromSphCoo (floatAt b 6) (floatAt b 7)))
+
 -- 10: an arc that can't be split
 unfoldable pub arcWork : Split → Float → Work
 arcWork (Into regions) precision = slots (arcPlan regions precision)
 arcWork Failed precision = refused 10
+
+-- "kind 3, its longitude and latitude as in code 06; if neither does, kind 5 and zeros"; 12 where there is no candidate (ask 3)
+unfoldable pub meetingWork : Meeting → Work
+meetingWork (At v) = crossing (crossedOf (parallels.At v))
+meetingWork Nowhere = crossing NoRoot
+meetingWork NoCandidate = refused 12
 
 -- 00 | end | no reply at all. A list of commands ends before it (`parse` in jobs), so no turn is taken at this row: its widths alone count
 abbrev pub end : Row
@@ -117,9 +137,21 @@ parallel =
       change = λ b. keeps;
     }
 
+-- 07 | two arcs: lon1, lat1, lon2, lat2, lon3, lat3, lon4, lat4 | kind, lon, lat (ask 3)
+unfoldable pub twoArcs : Row
+twoArcs =
+    record {
+      floats = isLongitude ∷ isLatitude ∷ isLongitude ∷ isLatitude ∷ isLongitude ∷ isLatitude ∷ isLongitude ∷ isLatitude ∷ [];
+      flags = [];
+      answer = kindLonLat;
+      needs = needsNothing;
+      work = λ g b. meetingWork (intersectArcs (firstArc b) (secondArc b));
+      change = λ b. keeps;
+    }
+
 -- by the code
 abbrev pub table : List Row
-table = end ∷ precision ∷ allowance ∷ arc ∷ coneInEqr ∷ coneInPc ∷ parallel ∷ []
+table = end ∷ precision ∷ allowance ∷ arc ∷ coneInEqr ∷ coneInPc ∷ parallel ∷ twoArcs ∷ []
 
 unfoldable pub rowOf : ℕ → Row
 rowOf code = getD table code end

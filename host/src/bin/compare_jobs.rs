@@ -1,7 +1,7 @@
-//! Compares the finder with the reference and document 01's rules, byte for byte, on random, boundary and damaged job files.
-//! Likewise what `finder depends` reports of short files.
+//! Compares the finder with the reference and document 01's rules, byte for byte, on random, boundary and damaged job files; two arcs with document
+//! 02's rule, and with plain geometry. Likewise what `finder depends` reports of short files.
 //!
-//! `compare_jobs [count]`, where `count` is the number of jobs (codes 03 to 06) in random files. Fails if an answer, a byte or a report differs,
+//! `compare_jobs [count]`, where `count` is the number of jobs (codes 03 to 07) in random files. Fails if an answer, a byte or a report differs,
 //! if 200,000 of them or more don't bring about everything that they are made for, or if `finder_run` uses more stack than include/finder.h says.
 
 use host::programs::count_argument;

@@ -1,4 +1,5 @@
-//! Times the finder against the reference on the same arcs, cones and parallels. A benchmark and no test.
+//! Times the finder against the reference on the same arcs, cones and parallels, and against document 02's rule in Rust on two arcs. A benchmark and no
+//! test.
 
 use std::process::ExitCode;
 

@@ -16,8 +16,8 @@ use expected::Alone;
 
 const SEED: u64 = 0x4465_7065;
 /// The most bytes of a file that is compared with another, and of one that is run with every allowance.
-const PAIRED: usize = 300;
-const ALONE: usize = 150;
+const PAIRED: usize = 340;
+const ALONE: usize = 260;
 /// One in so many turns runs a file with every allowance.
 const ALONE_EVERY: u64 = 2;
 

@@ -1,7 +1,9 @@
 //! What `finder list` must say of replies in words, worked out from the reference's.
 
-use super::words::{kind, reason, FOUND, SLOTS};
-use crate::commands::{Command, ALLOWANCE, ARC, EQUATORIAL_CONE, PARALLEL, POLAR_CONE, PRECISION};
+use super::words::{crossing, kind, reason, FOUND, SLOTS};
+use crate::commands::{
+    Command, ALLOWANCE, ARC, EQUATORIAL_CONE, PARALLEL, POLAR_CONE, PRECISION, TWO_ARCS,
+};
 use crate::reference::Slot;
 use crate::rules::{Content, Reply};
 
@@ -25,6 +27,7 @@ pub fn name(code: u8) -> &'static str {
         EQUATORIAL_CONE => "cone-in-equator",
         POLAR_CONE => "cone-in-cap",
         PARALLEL => "parallel",
+        TWO_ARCS => "two-arcs",
         _ => unreachable!("code {code:02x} has no reply"),
     }
 }
@@ -59,7 +62,13 @@ fn answer(reply: &Reply) -> Vec<String> {
             let height = f64::from_bits(slot.point[0]);
             vec![format!("{} at height {height:?}", walked(slot))]
         }
-        Content::Crossing(slot) => vec![format!("{}{}", kind(slot), at(slot))],
+        Content::Crossing(slot) => {
+            vec![format!(
+                "{}{}",
+                crossing(reply.command.code, slot),
+                at(slot)
+            )]
+        }
     }
 }
 

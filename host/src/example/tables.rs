@@ -1,12 +1,14 @@
 //! What `finder list` must say of replies as csv and as json, worked out from the reference's.
 
 use super::listing::name;
-use super::words::{kind, reason, FOUND, SLOTS};
-use crate::commands::{Command, ALLOWANCE, ARC, EQUATORIAL_CONE, PARALLEL, POLAR_CONE, PRECISION};
+use super::words::{crossing, kind, reason, FOUND, SLOTS};
+use crate::commands::{
+    Command, ALLOWANCE, ARC, EQUATORIAL_CONE, PARALLEL, POLAR_CONE, PRECISION, TWO_ARCS,
+};
 use crate::reference::Slot;
 use crate::rules::{Content, Reply};
 
-const HEADER: &str = "file,command,place,code,name,precision,allowance,lon1,lat1,lon2,lat2,z,lon_mod_half_pi,z0,radius,east,north,\
+const HEADER: &str = "file,command,place,code,name,precision,allowance,lon1,lat1,lon2,lat2,lon3,lat3,lon4,lat4,z,lon_mod_half_pi,z0,radius,east,north,\
 status,reason,slot,region,kind,outcome,steps,longitude,latitude,height";
 
 /// The values of some columns, as json has them; the others are empty.
@@ -45,6 +47,9 @@ fn operands(command: &Command) -> Row {
         EQUATORIAL_CONE => &["z", "z0", "radius"],
         POLAR_CONE => &["z", "lon_mod_half_pi", "z0", "radius"],
         PARALLEL => &["lon1", "lat1", "lon2", "lat2", "z"],
+        TWO_ARCS => &[
+            "lon1", "lat1", "lon2", "lat2", "lon3", "lat3", "lon4", "lat4",
+        ],
         _ => &[],
     };
     let bytes: &[&str] = match command.code {
@@ -75,23 +80,24 @@ fn answers(reply: &Reply) -> Vec<Row> {
                     ("slot", (place + 1).to_string()),
                     ("region", string(region)),
                 ];
-                [names, outcome(slot), steps(slot), point(slot)].concat()
+                [names, outcome(slot, kind(slot)), steps(slot), point(slot)].concat()
             };
             slots.map(row).collect()
         }
         Content::Height(slot) => {
             let height = format!("{:?}", f64::from_bits(slot.point[0]));
-            vec![[outcome(slot), steps(slot), vec![("height", height)]].concat()]
+            let outcome = outcome(slot, kind(slot));
+            vec![[outcome, steps(slot), vec![("height", height)]].concat()]
         }
-        Content::Crossing(slot) => vec![[outcome(slot), point(slot)].concat()],
+        Content::Crossing(slot) => {
+            let outcome = outcome(slot, crossing(reply.command.code, slot));
+            vec![[outcome, point(slot)].concat()]
+        }
     }
 }
 
-fn outcome(slot: &Slot) -> Row {
-    vec![
-        ("kind", slot.kind.to_string()),
-        ("outcome", string(kind(slot))),
-    ]
+fn outcome(slot: &Slot, words: &str) -> Row {
+    vec![("kind", slot.kind.to_string()), ("outcome", string(words))]
 }
 
 fn steps(slot: &Slot) -> Row {

@@ -1,6 +1,6 @@
 //! What examples/host.c must say of replies, worked out from the reference's and not from bytes; and the words that listings share with it.
 
-use crate::commands::{ALLOWANCE, ARC, EQUATORIAL_CONE, PARALLEL, POLAR_CONE, PRECISION};
+use crate::commands::{ALLOWANCE, ARC, EQUATORIAL_CONE, PARALLEL, POLAR_CONE, PRECISION, TWO_ARCS};
 use crate::reference::Slot;
 use crate::rules::{Content, Reply};
 
@@ -15,12 +15,13 @@ pub const SLOTS: [&str; 5] = [
 const POINT: [&str; 2] = ["longitude", "latitude"];
 
 pub fn of_reply(reply: &Reply) -> String {
-    let (name, status) = (name(reply.command.code), reply.status);
+    let (code, status) = (reply.command.code, reply.status);
+    let name = name(code);
     let answer = match &reply.content {
         Content::Zeros => String::new(),
         Content::Slots(slots) => SLOTS.iter().zip(slots).map(of_slot).collect(),
         Content::Height(slot) => format!("\n    {}{}", walked(slot), at(slot, ["height"])),
-        Content::Crossing(slot) => format!("\n    {}{}", kind(slot), at(slot, POINT)),
+        Content::Crossing(slot) => format!("\n    {}{}", crossing(code, slot), at(slot, POINT)),
     };
     format!("{name}, status {status}: {}{answer}\n", reason(status))
 }
@@ -53,6 +54,7 @@ fn name(code: u8) -> &'static str {
         EQUATORIAL_CONE => "equatorial cone",
         POLAR_CONE => "polar cone",
         PARALLEL => "parallel",
+        TWO_ARCS => "two arcs",
         _ => unreachable!("code {code:02x} has no reply"),
     }
 }
@@ -69,6 +71,14 @@ pub fn kind(slot: &Slot) -> &'static str {
     }
 }
 
+/// The kind of a parallel's answer, or of that for two arcs.
+pub fn crossing(code: u8, slot: &Slot) -> &'static str {
+    match (code, slot.kind) {
+        (TWO_ARCS, 5) => "the arcs don't cross",
+        _ => kind(slot),
+    }
+}
+
 pub fn reason(status: u8) -> &'static str {
     match status {
         0 => "accepted",
@@ -77,6 +87,7 @@ pub fn reason(status: u8) -> &'static str {
         8 => "a north or east byte is neither 0 nor 1",
         9 => "an operand is outside its range",
         10 => "the arc can't be split",
+        12 => "the arcs' planes can't be told apart, or an arc has none",
         _ => unreachable!("there is no status {status}"),
     }
 }

@@ -164,10 +164,16 @@ const MERIDIAN_LIMIT: [[u64; 3]; 4] = [
     ],
 ];
 
-type Point = [f64; 2];
+pub type Point = [f64; 2];
+
+/// Of any class.
+pub fn any(random: &mut Random) -> Ends {
+    let (_, draw) = random.one_of(&CLASSES);
+    draw(random)
+}
 
 /// The two points, brought into range.
-fn joined([lon1, lat1]: Point, [lon2, lat2]: Point) -> Ends {
+pub fn joined([lon1, lat1]: Point, [lon2, lat2]: Point) -> Ends {
     [
         in_turn(lon1),
         in_half_turn(lat1),
@@ -194,7 +200,7 @@ pub fn transition_latitude() -> f64 {
     asin(TRANSITION_Z)
 }
 
-fn any_lon(random: &mut Random) -> f64 {
+pub fn any_lon(random: &mut Random) -> f64 {
     random.between(0.0, TAU)
 }
 
@@ -202,7 +208,7 @@ fn any_lat(random: &mut Random) -> f64 {
     asin(random.between(-1.0, 1.0))
 }
 
-fn on_sphere(random: &mut Random) -> Point {
+pub fn on_sphere(random: &mut Random) -> Point {
     [any_lon(random), any_lat(random)]
 }
 
@@ -213,7 +219,7 @@ fn cap_lat(random: &mut Random) -> f64 {
 }
 
 /// The point at this distance, in the direction that is so far east of north.
-fn towards([lon, lat]: Point, bearing: f64, distance: f64) -> Point {
+pub fn towards([lon, lat]: Point, bearing: f64, distance: f64) -> Point {
     let (sin_lon, cos_lon) = sin_cos(lon);
     let (sin_lat, cos_lat) = sin_cos(lat);
     let (along, ahead) = sin_cos(distance);
@@ -227,7 +233,7 @@ fn towards([lon, lat]: Point, bearing: f64, distance: f64) -> Point {
     [atan2(y, x), atan2(z, (x * x + y * y).sqrt())]
 }
 
-fn at_distance(random: &mut Random, start: Point, distance: f64) -> Point {
+pub fn at_distance(random: &mut Random, start: Point, distance: f64) -> Point {
     towards(start, any_lon(random), distance)
 }
 
@@ -238,7 +244,7 @@ fn to_distance(random: &mut Random, start: Point, low: f64, high: f64) -> Ends {
 }
 
 /// From `start` over at most 20 degrees.
-fn camera_edge(random: &mut Random, start: Point) -> Ends {
+pub fn camera_edge(random: &mut Random, start: Point) -> Ends {
     let distance = random.between(0.0, 20f64.to_radians());
     joined(start, at_distance(random, start, distance))
 }
@@ -395,7 +401,7 @@ pub fn beside_longitude_0(random: &mut Random) -> Ends {
 }
 
 /// A subnormal number, another tiny one, or one of the last floats below 2π.
-fn lon_beside_0(random: &mut Random) -> f64 {
+pub fn lon_beside_0(random: &mut Random) -> f64 {
     match random.below(4) {
         0 => {
             let digits = random.below(53);
@@ -459,12 +465,12 @@ fn close_to_poles(random: &mut Random) -> Ends {
     joined([any_lon(random), lat1], [any_lon(random), lat2])
 }
 
-fn equal_points(random: &mut Random) -> Ends {
+pub fn equal_points(random: &mut Random) -> Ends {
     let point = random.one_of(&[on_sphere, boundary_point])(random);
     joined(point, point)
 }
 
-fn antipodal(random: &mut Random) -> Ends {
+pub fn antipodal(random: &mut Random) -> Ends {
     let [lon, lat] = random.one_of(&[on_sphere, boundary_point])(random);
     let opposite = [if lon < PI { lon + PI } else { lon - PI }, -lat];
     if random.flip() {
@@ -550,6 +556,6 @@ fn boundary_point(random: &mut Random) -> Point {
     [boundary_lon(random), boundary_lat(random)]
 }
 
-fn boundary_values(random: &mut Random) -> Ends {
+pub fn boundary_values(random: &mut Random) -> Ends {
     joined(boundary_point(random), boundary_point(random))
 }

@@ -7,26 +7,26 @@ use crate::random::{moved, Random};
 
 pub const CLASSES: [Class<Command>; 9] = [
     ("between the ends", |random| {
-        let ends = any_ends(random);
+        let ends = ends::any(random);
         at(ends, between(random, ends))
     }),
     ("at an end", |random| {
-        let ends = any_ends(random);
+        let ends = ends::any(random);
         at(ends, random.one_of(&heights(ends)))
     }),
     ("next to an end", |random| {
-        let ends = any_ends(random);
+        let ends = ends::any(random);
         let height = random.one_of(&heights(ends));
         at(ends, random.nudged(height))
     }),
     ("at the transition", |random| {
-        at(any_ends(random), random.signed(TRANSITION_Z))
+        at(ends::any(random), random.signed(TRANSITION_Z))
     }),
     ("boundary heights", |random| {
-        at(any_ends(random), boundary_height(random))
+        at(ends::any(random), boundary_height(random))
     }),
     ("any height", |random| {
-        at(any_ends(random), random.between(-1.0, 1.0))
+        at(ends::any(random), random.between(-1.0, 1.0))
     }),
     ("near-meridian planes", |random| {
         let ends = ends::near_meridian(random);
@@ -46,11 +46,6 @@ pub fn beside_longitude_0(random: &mut Random) -> Command {
     let towards = if z1 < z2 { 1 } else { -1 };
     let heights = [moved(z1, towards), between(random, ends)];
     at(ends, random.one_of(&heights))
-}
-
-fn any_ends(random: &mut Random) -> Ends {
-    let (_, draw) = random.one_of(&ends::CLASSES);
-    draw(random)
 }
 
 /// The heights of both ends, as the finder works them out.

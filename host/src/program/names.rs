@@ -2,6 +2,7 @@
 
 use crate::commands::{
     row, Float, Row, ALLOWANCE, ARC, END, EQUATORIAL_CONE, PARALLEL, POLAR_CONE, PRECISION,
+    TWO_ARCS,
 };
 
 /// A command as the text form has it.
@@ -16,6 +17,10 @@ const LON1: [&str; 2] = ["LON1", "lon1"];
 const LAT1: [&str; 2] = ["LAT1", "lat1"];
 const LON2: [&str; 2] = ["LON2", "lon2"];
 const LAT2: [&str; 2] = ["LAT2", "lat2"];
+const LON3: [&str; 2] = ["LON3", "lon3"];
+const LAT3: [&str; 2] = ["LAT3", "lat3"];
+const LON4: [&str; 2] = ["LON4", "lon4"];
+const LAT4: [&str; 2] = ["LAT4", "lat4"];
 const Z: [&str; 2] = ["Z", "z"];
 const Z0: [&str; 2] = ["Z0", "z0"];
 const RADIUS: [&str; 2] = ["RADIUS", "radius"];
@@ -31,7 +36,7 @@ const fn form(code: u8, name: &'static str, operands: &'static [[&'static str; 2
     }
 }
 
-pub const FORMS: [Form; 7] = [
+pub const FORMS: [Form; 8] = [
     form(PRECISION, "precision", &[["X", "precision"]]),
     form(ALLOWANCE, "allowance", &[["N", "allowance"]]),
     form(ARC, "arc", &[LON1, LAT1, LON2, LAT2]),
@@ -42,6 +47,11 @@ pub const FORMS: [Form; 7] = [
         &[Z, LON_MOD, Z0, RADIUS, EAST, NORTH],
     ),
     form(PARALLEL, "parallel", &[LON1, LAT1, LON2, LAT2, Z]),
+    form(
+        TWO_ARCS,
+        "two-arcs",
+        &[LON1, LAT1, LON2, LAT2, LON3, LAT3, LON4, LAT4],
+    ),
     form(END, "end", &[]),
 ];
 
@@ -102,29 +112,34 @@ pub fn of_code(code: u8) -> &'static Form {
         .expect("each code of the table has a form")
 }
 
-/// Kinds 0 to 5.
-pub const KINDS: [&str; 6] = [
-    "no such piece",
-    "no walk",
-    "height rejected",
-    "found",
-    "height not between the ends",
-    "neither root passes",
-];
+/// What a kind says of the answer to a command.
+pub fn outcome(code: u8, kind: u8) -> &'static str {
+    match (code, kind) {
+        (_, 0) => "no such piece",
+        (_, 1) => "no walk",
+        (_, 2) => "height rejected",
+        (_, 3) => "found",
+        (_, 4) => "height not between the ends",
+        (TWO_ARCS, 5) => "the arcs don't cross",
+        (_, 5) => "neither root passes",
+        _ => unreachable!("no answer has kind {kind}"),
+    }
+}
 
-/// Why a file is refused under 1 to 5, and a command under 6 to 10.
+/// Why a file is refused, under 1 to 5, or a command. There is no 11 here: it is the error of the program `patterns`.
 pub fn reason(number: u8) -> &'static str {
-    const REASONS: [&str; 10] = [
-        "the file has no byte or more than 16,384",
-        "a command byte isn't in the table",
-        "operands are cut short or code 00 is missing",
-        "bytes follow code 00",
-        "the reply buffer is shorter than all replies",
-        "precision or allowance is not set",
-        "a float isn't finite",
-        "a north or east byte is neither 0 nor 1",
-        "an operand is outside its range",
-        "the arc can't be split",
-    ];
-    REASONS[usize::from(number) - 1]
+    match number {
+        1 => "the file has no byte or more than 16,384",
+        2 => "a command byte isn't in the table",
+        3 => "operands are cut short or code 00 is missing",
+        4 => "bytes follow code 00",
+        5 => "the reply buffer is shorter than all replies",
+        6 => "precision or allowance is not set",
+        7 => "a float isn't finite",
+        8 => "a north or east byte is neither 0 nor 1",
+        9 => "an operand is outside its range",
+        10 => "the arc can't be split",
+        12 => "the arcs' planes can't be told apart, or an arc has none",
+        _ => unreachable!("nothing is refused under {number}"),
+    }
 }

@@ -1,7 +1,7 @@
 //! What the finder answers to a job file, command by command, read from the bytes of its replies.
 
 use crate::commands::{
-    row, Command, ARC, END, EQUATORIAL_CONE, PARALLEL, POLAR_CONE, REPLY_BUFFER, SLOT,
+    row, Command, ARC, END, EQUATORIAL_CONE, PARALLEL, POLAR_CONE, REPLY_BUFFER, SLOT, TWO_ARCS,
 };
 use crate::finder;
 
@@ -29,11 +29,11 @@ pub struct Replied {
     pub reply: Vec<u8>,
 }
 
-/// A slot of an arc, or the one answer to a cone or a parallel, which has no name.
+/// A slot of an arc, or the one answer to another job, which has no name.
 pub struct Slot {
     pub name: Option<&'static str>,
     pub kind: u8,
-    /// A parallel has no walk.
+    /// A parallel and two arcs have no walk.
     pub steps: Option<u8>,
     /// Where the kind is 3.
     pub point: Option<Point>,
@@ -67,7 +67,7 @@ impl Replied {
                 steps: Some(answer[1]),
                 point: (answer[0] == FOUND).then(|| Point::Height(float(&answer[2..]))),
             }],
-            PARALLEL => vec![Slot {
+            PARALLEL | TWO_ARCS => vec![Slot {
                 name: None,
                 kind: answer[0],
                 steps: None,

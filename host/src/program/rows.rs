@@ -1,12 +1,12 @@
 //! Replies as rows of a table, one for each slot, which csv and json share.
 
 use super::input::Input;
-use super::names::{self, KINDS};
+use super::names;
 use super::numbers;
 use super::replies::{Point, Replied, Slot};
 use super::values::{self, Value};
 
-pub const COLUMNS: [&str; 27] = [
+pub const COLUMNS: [&str; 31] = [
     "file",
     "command",
     "place",
@@ -18,6 +18,10 @@ pub const COLUMNS: [&str; 27] = [
     "lat1",
     "lon2",
     "lat2",
+    "lon3",
+    "lat3",
+    "lon4",
+    "lat4",
     "z",
     "lon_mod_half_pi",
     "z0",
@@ -56,7 +60,7 @@ pub fn of_replies(input: &Input, replies: &[Replied]) -> Vec<Row> {
         }
         for (slot, number) in slots.iter().zip(1..) {
             let mut row = start.clone();
-            set_slot(&mut row, slot, number);
+            set_slot(&mut row, replied.command.code, slot, number);
             rows.push(row);
         }
     }
@@ -87,13 +91,13 @@ fn start(input: &Input, replied: &Replied, number: usize) -> Row {
     row
 }
 
-fn set_slot(row: &mut Row, slot: &Slot, number: usize) {
+fn set_slot(row: &mut Row, code: u8, slot: &Slot, number: usize) {
     if let Some(name) = slot.name {
         set(row, "slot", whole(number));
         set(row, "region", text(name));
     }
     set(row, "kind", whole(slot.kind));
-    set(row, "outcome", text(KINDS[usize::from(slot.kind)]));
+    set(row, "outcome", text(names::outcome(code, slot.kind)));
     if let Some(steps) = slot.steps {
         set(row, "steps", whole(steps));
     }

@@ -1,6 +1,6 @@
 //! Replies in words.
 
-use super::names::{reason, KINDS};
+use super::names::{outcome, reason};
 use super::numbers;
 use super::replies::{Point, Replied, Slot};
 use super::values::{line, Angles};
@@ -30,17 +30,18 @@ fn of_reply(replied: &Replied, angles: Angles) -> Vec<String> {
     if slots.is_empty() {
         return vec!["set".to_string()];
     }
+    let code = replied.command.code;
     let pieces = slots.iter().filter(|slot| slot.kind != NO_PIECE);
-    let words: Vec<String> = pieces.map(|slot| of_slot(slot, angles)).collect();
+    let words: Vec<String> = pieces.map(|slot| of_slot(code, slot, angles)).collect();
     match words.is_empty() {
-        true => vec![KINDS[usize::from(NO_PIECE)].to_string()],
+        true => vec![outcome(code, NO_PIECE).to_string()],
         false => words,
     }
 }
 
-fn of_slot(slot: &Slot, angles: Angles) -> String {
+fn of_slot(code: u8, slot: &Slot, angles: Angles) -> String {
     let region = slot.name.map_or(String::new(), |name| format!("{name}: "));
-    let kind = KINDS[usize::from(slot.kind)];
+    let kind = outcome(code, slot.kind);
     let steps = match slot.steps {
         Some(1) => " after 1 step".to_string(),
         Some(steps) if slot.kind != NO_WALK => format!(" after {steps} steps"),

@@ -45,7 +45,7 @@ pub fn reply(command: &Command, (precision, allowance): (f64, u8)) -> Reply {
 
 /// Both ends of an arc or of a parallel's arc.
 pub fn ends(command: &Command) -> [Coo3D; 2] {
-    let [lon1, lat1, lon2, lat2, _] = command.floats;
+    let [lon1, lat1, lon2, lat2, ..] = command.floats;
     [
         Coo3D::from_sph_coo(lon1, lat1),
         Coo3D::from_sph_coo(lon2, lat2),

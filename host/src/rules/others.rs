@@ -1,4 +1,4 @@
-//! The replies to cones and parallels.
+//! The replies to cones, parallels and two arcs.
 
 use super::arc::ends;
 use super::reply::NO_KIND;
@@ -6,9 +6,11 @@ use super::{Content, Reply};
 use crate::commands::Command;
 use crate::pattern;
 use crate::reference::{
-    cone_special_point_in_eqr, cone_special_point_in_pc, intersect_parallel, watch, Panic, Slot,
-    Watched,
+    cone_special_point_in_eqr, cone_special_point_in_pc, intersect_parallel, two_arcs, watch,
+    LonLat, Panic, Slot, Watched,
 };
+
+const STATUS_12: u8 = 12;
 
 pub fn equatorial_cone(command: &Command, (precision, allowance): (f64, u8)) -> Reply {
     let [z, z0, radius, ..] = command.floats;
@@ -18,7 +20,7 @@ pub fn equatorial_cone(command: &Command, (precision, allowance): (f64, u8)) -> 
 }
 
 pub fn polar_cone(command: &Command, (precision, allowance): (f64, u8)) -> Reply {
-    let [z, lon, z0, radius, _] = command.floats;
+    let [z, lon, z0, radius, ..] = command.floats;
     let [east, north] = command.bytes.map(|byte| byte == 1);
     let cone =
         watch(|| cone_special_point_in_pc(z, lon, z0, radius, east, north, precision, allowance));
@@ -48,19 +50,41 @@ pub fn parallel(command: &Command) -> Reply {
     let z = command.floats[4];
     let crossing = watch(|| intersect_parallel(&p1, &p2, z).map(|vector| vector.lonlat()));
     let (kind, point) = match &crossing.result {
-        Ok(Some(point)) => (3, [point.lon, point.lat].map(pattern)),
+        Ok(Some(point)) => found(point),
         Ok(None) => (4, [0; 2]),
         Err(Panic::Unreachable) => (5, [0; 2]),
         Err(_) => (NO_KIND, [0; 2]),
     };
+    Reply {
+        panic: crossing.result.as_ref().err().copied(),
+        ..crossed(command, kind, point, &crossing)
+    }
+}
+
+/// Document 02, ask 3.
+pub fn two_arcs(command: &Command) -> Reply {
+    let crossing = watch(|| two_arcs::crossing(&command.floats));
+    let (kind, point) = match &crossing.result {
+        Ok(Ok(Some(point))) => found(point),
+        Ok(Ok(None)) => (5, [0; 2]),
+        Ok(Err(two_arcs::NoNorm)) => return Reply::with_status(*command, STATUS_12),
+        Err(_) => (NO_KIND, [0; 2]),
+    };
+    crossed(command, kind, point, &crossing)
+}
+
+fn found(point: &LonLat) -> (u8, [u64; 2]) {
+    (3, [point.lon, point.lat].map(pattern))
+}
+
+fn crossed<T>(command: &Command, kind: u8, point: [u64; 2], watched: &Watched<T>) -> Reply {
     Reply {
         content: Content::Crossing(Slot {
             kind,
             steps: 0,
             point,
         }),
-        panic: crossing.result.as_ref().err().copied(),
-        whole_turns: crossing.work.whole_turns,
+        whole_turns: watched.work.whole_turns,
         ..Reply::with_status(*command, 0)
     }
 }

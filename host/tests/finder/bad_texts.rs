@@ -2,7 +2,7 @@
 
 use crate::process::finder;
 
-const NAMES: &str = "there are precision, allowance, arc, cone-in-equator, cone-in-cap, parallel, end, degrees, radians";
+const NAMES: &str = "there are precision, allowance, arc, cone-in-equator, cone-in-cap, parallel, two-arcs, end, degrees, radians";
 const NUMBER: &str = "is no number; a decimal such as 0.25 or bits: with 16 hex digits is expected";
 const COMMA: &str = "the decimal mark is a point, and spaces separate operands";
 const BITS: &str = "an infinity or a NaN is written as its bits, such as bits:7FF0000000000000";
@@ -110,6 +110,18 @@ fn wrong_lines() {
             "4 operands given; the form is `parallel LON1 LAT1 LON2 LAT2 Z`".into(),
         ),
         (
+            "two-arcs 0.1 0.2 0.3 0.4 0.5 0.6 0.7",
+            "7 operands given; the form is `two-arcs LON1 LAT1 LON2 LAT2 LON3 LAT3 LON4 LAT4`".into(),
+        ),
+        (
+            "two-arcs 0.1 0.2 0.3 0.4 0.5 0.6 0.7 0.8 0.9",
+            "9 operands given; the form is `two-arcs LON1 LAT1 LON2 LAT2 LON3 LAT3 LON4 LAT4`".into(),
+        ),
+        (
+            "two-arc 0.1 0.2",
+            format!("there is no command `two-arc` (did you mean `two-arcs`?); {NAMES}"),
+        ),
+        (
             "degrees 90",
             "1 operand given; the form is `degrees`".into(),
         ),
@@ -138,6 +150,14 @@ fn wrong_lines() {
         (
             "parallel 0 0 0 0 1e999",
             format!("Z: `1e999` is too large for a float; {BITS}"),
+        ),
+        (
+            "two-arcs 0 0 0 0 0 0 x 0",
+            format!("LON4: `x` {NUMBER}"),
+        ),
+        (
+            "two-arcs 0 0 0 0 0 1e999 0 0",
+            format!("LAT3: `1e999` is too large for a float; {BITS}"),
         ),
         (
             "precision -1e400",

@@ -75,7 +75,9 @@ command  job              allowance  settled from
      11  cone-in-equator         20             5
      12  cone-in-cap             20             8
      13  parallel                 -           any
-     14  arc                     20           any
+     14  two-arcs                 -           any
+     15  two-arcs                 -           any
+     16  arc                     20           any
 
 Every reply stays the same for every allowance from 8 on. This file's own allowances settle every reply.
 ";
@@ -125,6 +127,31 @@ Every reply stays the same for every allowance. This file's own allowances settl
     assert_eq!(printed(&[&file("unset.job", &job)], 0), expected);
 }
 
+/// Found, apart and refused under 12: two arcs begin no walk, and have no allowance.
+#[test]
+fn two_arcs_depend_on_no_allowance() {
+    let text = "allowance 1\ntwo-arcs 0 0 1 0.1 0.5 -0.1 0.6 0.3\ntwo-arcs 0 0 1 0.1 2 -0.1 2.1 0.3\ntwo-arcs 0 0 1 0 2 0 3 0\nend\n";
+    let name = file("two_arcs.txt", text.as_bytes());
+    let expected = "\
+command  job          allowance  settled from
+      1  allowance 1          -           any
+      2  two-arcs             -           any
+      3  two-arcs             -           any
+      4  two-arcs             -           any
+
+Every reply stays the same for every allowance. This file's own allowances settle every reply.
+";
+    assert_eq!(printed(&[&name], 0), expected);
+    let listed = finder(&["list", &name], b"").text();
+    let outcomes = ["found at longitude", "the arcs don't cross", "status 12"];
+    assert!(outcomes.iter().all(|it| listed.contains(it)), "{listed}");
+    let paired = printed(&[&name, "--allowance", "9"], 0);
+    assert!(
+        paired.contains("\nNo reply differs between A and B. "),
+        "{paired}"
+    );
+}
+
 #[test]
 fn the_example_with_other_allowances() {
     let expected = "\
@@ -139,12 +166,12 @@ command  job              walk              allowance A  allowance B  steps A  s
      11  cone-in-equator  -                          20            4        5        4  yes
      12  cone-in-cap      -                          20            4        8        4  yes
 
-4 of 14 replies differ between A and B: commands 5, 9, 11 and 12.
+4 of 16 replies differ between A and B: commands 5, 9, 11 and 12.
 ";
     assert_eq!(printed(&[EXAMPLE, "--allowance", "4"], 3), expected);
     let one = printed(&[EXAMPLE, "--allowance", "7"], 3);
     assert!(
-        one.ends_with("\n1 of 14 replies differs between A and B: command 12.\n"),
+        one.ends_with("\n1 of 16 replies differs between A and B: command 12.\n"),
         "{one}"
     );
     let none = "\

@@ -99,7 +99,7 @@ fn float(row: &Row, column: &str) -> [u8; 8] {
     f64::to_le_bytes(float)
 }
 
-/// The bytes of replies, by document 01's table.
+/// The bytes of replies, by document 01's table and document 02's code 07.
 fn replies(rows: &[Row]) -> Vec<u8> {
     let mut replies = Vec::new();
     for row in rows {
@@ -113,7 +113,7 @@ fn replies(rows: &[Row]) -> Vec<u8> {
             3 if status != 0 => replies.extend([0; 90]),
             3 => replies.extend([&[kind, steps][..], &lon, &lat].concat()),
             4 | 5 => replies.extend([&[kind, steps][..], &z].concat()),
-            6 => replies.extend([&[kind][..], &lon, &lat].concat()),
+            6 | 7 => replies.extend([&[kind][..], &lon, &lat].concat()),
             _ => {}
         }
     }
@@ -134,7 +134,13 @@ fn commands(rows: &[Row]) -> Vec<u8> {
                 &["z", "lon_mod_half_pi", "z0", "radius"],
                 &["east", "north"],
             ),
-            _ => (&["lon1", "lat1", "lon2", "lat2", "z"], &[]),
+            6 => (&["lon1", "lat1", "lon2", "lat2", "z"], &[]),
+            _ => (
+                &[
+                    "lon1", "lat1", "lon2", "lat2", "lon3", "lat3", "lon4", "lat4",
+                ],
+                &[],
+            ),
         };
         job.push(byte(row, "code"));
         job.extend(floats.iter().flat_map(|column| float(row, column)));
@@ -149,7 +155,7 @@ fn tables_give_back_every_bit() {
     let csv = rows_of_csv(&finder(&["list", "--format", "csv", TEXT], b"").text());
     let json = rows_of_json(&finder(&["list", "--format", "json", TEXT], b"").text());
     for rows in [csv, json] {
-        assert_eq!(rows.len(), 2 + 8 * 5 + 4);
+        assert_eq!(rows.len(), 2 + 8 * 5 + 6);
         assert_eq!(replies(&rows), stored("reply"));
         assert_eq!(commands(&rows), stored("job"));
     }

@@ -77,14 +77,18 @@ fn texts_taken_for_job_files() {
 /// Under each number, with what stands at the place.
 #[test]
 fn refused_job_files() {
-    let table: [(&[u8], &str); 8] = [
+    let table: [(&[u8], &str); 9] = [
         (b"", "1 at place 0: the file has no byte or more than 16,384; it has 0 bytes"),
         (&[0; 16_385], "1 at place 0: the file has no byte or more than 16,384; it has 16385 bytes"),
         (b"\xF0", "2 at place 0: a command byte isn't in the table; byte 0xF0 stands there, after 0 commands"),
-        (b"\x02\x00\x09\x00", "2 at place 2: a command byte isn't in the table; byte 0x09 stands there, after 1 command"),
+        (b"\x02\x00\x08\x00", "2 at place 2: a command byte isn't in the table; byte 0x08 stands there, after 1 command"),
         (
             b"\x02\x14\x03\x00",
             "3 at place 2: operands are cut short or code 00 is missing; `arc` stands there and takes 32 operand bytes; the file ends after 1",
+        ),
+        (
+            b"\x07\x00",
+            "3 at place 0: operands are cut short or code 00 is missing; `two-arcs` stands there and takes 64 operand bytes; the file ends after 1",
         ),
         (
             b"\x02\x14\x02\x00",
@@ -172,8 +176,8 @@ fn several_files_with_bad_ones() {
     let csv = list("csv");
     let rows: Vec<&str> = csv.lines().skip(1).collect();
     let expected = [
-        "one,1,0,2,allowance,,1,,,,,,,,,,,0,,,,,,,,,",
-        "\"two \"\"2\"\", and, more\",1,0,1,precision,bits:7FF0000000000000,,,,,,,,,,,,7,a float isn't finite,,,,,,,,",
+        "one,1,0,2,allowance,,1,,,,,,,,,,,,,,,0,,,,,,,,,",
+        "\"two \"\"2\"\", and, more\",1,0,1,precision,bits:7FF0000000000000,,,,,,,,,,,,,,,,7,a float isn't finite,,,,,,,,",
     ];
     assert_eq!(rows, expected);
     let json = list("json");

@@ -1,7 +1,7 @@
 //! `write` of `show` gives back job files, and `run` gives the stored answers.
 
 use crate::process::{finder, repository, Folder};
-use host::commands::{row, ALLOWANCE, END, MOST_BYTES, PARALLEL, PRECISION};
+use host::commands::{row, ALLOWANCE, END, MOST_BYTES, PRECISION, TWO_ARCS};
 use host::random::Random;
 use std::fs;
 
@@ -102,6 +102,7 @@ fn random_job_files() {
         " south\n",
         " east ",
         " west ",
+        "two-arcs ",
     ] {
         assert!(shown.contains(seen), "no {seen:?}");
     }
@@ -116,7 +117,7 @@ fn add_command(random: &mut Random, job: &mut Vec<u8>) {
         1 << 63,
         1,
     ];
-    let code = PRECISION + random.below(u64::from(PARALLEL)) as u8;
+    let code = PRECISION + random.below(u64::from(TWO_ARCS)) as u8;
     let row = row(code).expect("the code is in the table");
     job.push(code);
     for _ in row.floats {

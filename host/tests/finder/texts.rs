@@ -22,7 +22,8 @@ const PLAIN: &str = "precision 1e-9\nallowance 20\narc 0.1 0.2 0.35 0.25\nend\n"
 #[test]
 fn every_command() {
     let text = "precision 1e-9\nallowance 20\narc 0.10 +0.20 0.35 .25\ncone-in-equator 0.3 0.1 0.05 north\n\
-                cone-in-cap 0.8 0.4 0.7 5e-2 west south\nparallel 0.1 0.2 0.3 0.9 0.5\nend\n";
+                cone-in-cap 0.8 0.4 0.7 5e-2 west south\nparallel 0.1 0.2 0.3 0.9 0.5\n\
+                two-arcs 0.1 0.2 0.3 0.4 0.5 0.6 0.7 -.8\nend\n";
     let job = [
         bytes(1, &[1e-9], &[]),
         bytes(2, &[], &[20]),
@@ -30,6 +31,7 @@ fn every_command() {
         bytes(4, &[0.3, 0.1, 0.05], &[1]),
         bytes(5, &[0.8, 0.4, 0.7, 0.05], &[0, 0]),
         bytes(6, &[0.1, 0.2, 0.3, 0.9, 0.5], &[]),
+        bytes(7, &[0.1, 0.2, 0.3, 0.4, 0.5, 0.6, 0.7, -0.8], &[]),
         bytes(0, &[], &[]),
     ];
     assert_eq!(written(text), job.concat());
@@ -59,7 +61,7 @@ fn line_ends_marks_comments_and_blanks() {
 #[test]
 fn degrees_are_for_angles_alone() {
     let text = "degrees\nprecision 90\narc 90 -45 360 1e-3\ncone-in-equator 90 45 1 1\ncone-in-cap 90 30 45 1 east 0\nparallel 10 20 30 40 0.5\n\
-                radians\narc 90 -45 360 1e-3\ndegrees\narc bits:3FF0000000000000 1 bits:7ff4000000000001 -0\nend\n";
+                two-arcs 10 20 30 40 50 60 70 -80\nradians\narc 90 -45 360 1e-3\ndegrees\narc bits:3FF0000000000000 1 bits:7ff4000000000001 -0\nend\n";
     let degree = PI / 180.0;
     let nan = f64::from_bits(0x7FF4_0000_0000_0001);
     let job = [
@@ -76,6 +78,11 @@ fn degrees_are_for_angles_alone() {
                 40.0 * degree,
                 0.5,
             ],
+            &[],
+        ),
+        bytes(
+            7,
+            &[10.0, 20.0, 30.0, 40.0, 50.0, 60.0, 70.0, -80.0].map(|x| x * degree),
             &[],
         ),
         bytes(3, &[90.0, -45.0, 360.0, 1e-3], &[]),
@@ -128,7 +135,8 @@ fn floats_of_tables() {
 #[test]
 fn listed() {
     let text = "arc 0 0 1 1\nprecision bits:7FF0000000000000\nprecision 1e-9\nallowance 1\narc 2.3275 0.5101 2.0596 0.7856\n\
-                cone-in-equator 0.276 0.199 0.1 7\ncone-in-equator 0.276 2 0.1 north\narc 0 0.8 3.141592653589793 -0.8\nend\n";
+                cone-in-equator 0.276 0.199 0.1 7\ncone-in-equator 0.276 2 0.1 north\narc 0 0.8 3.141592653589793 -0.8\n\
+                two-arcs 0 0 1 0 0.5 0 2 0\ntwo-arcs 7 0 1 0 0.5 0 2 0\ntwo-arcs 0 0 1 0 0.5 0 2 bits:7FF0000000000000\nend\n";
     let listing = "   1  arc 0 0 1 1
           refused, status 6: precision or allowance is not set
    2  precision bits:7FF0000000000000
@@ -148,6 +156,12 @@ fn listed() {
           refused, status 9: an operand is outside its range
    8  arc 0 0.8 3.141592653589793 -0.8
           refused, status 10: the arc can't be split
+   9  two-arcs 0 0 1 0 0.5 0 2 0
+          refused, status 12: the arcs' planes can't be told apart, or an arc has none
+  10  two-arcs 7 0 1 0 0.5 0 2 0
+          refused, status 9: an operand is outside its range
+  11  two-arcs 0 0 1 0 0.5 0 2 bits:7FF0000000000000
+          refused, status 7: a float isn't finite
 ";
     assert!(listed.ends_with(end), "{listed}");
 }
@@ -188,6 +202,11 @@ fn listed_without_points() {
             "arc 1.2842388656527222 -0.2678237116066448 1.2991747463510848 -0.25479556955392063",
             "equator: neither root passes after 4 steps",
         ),
+        (
+            20,
+            "two-arcs 0 0 1 0.1 2 -0.1 2.1 0.3",
+            "the arcs don't cross",
+        ),
     ];
     for (allowance, command, words) in table {
         let text = format!("precision 1e-9\nallowance {allowance}\n{command}\nend\n");
@@ -197,9 +216,65 @@ fn listed_without_points() {
     }
 }
 
+/// Where two arcs cross can be told by hand here: on the equator, halfway between symmetric ends, at a pole.
+#[test]
+fn two_arcs_that_cross() {
+    let table = [
+        ("1 0 2 0 1.5 -0.3 1.5 0.4", [1.5, 0.0]),
+        ("1.5 -0.3 1.5 0.4 2 0 1 0", [1.5, 0.0]),
+        ("6 0 0.5 0 0.25 0.3 0.25 -0.4", [0.25, 0.0]),
+        ("1 -0.1 1.2 0.1 1 0.1 1.2 -0.1", [1.1, 0.0]),
+        (
+            "0.5 0.2 3.5 0.2 2 -1.5 2 1.5",
+            [2.0, (0.2_f64.tan() / 1.5_f64.cos()).atan()],
+        ),
+        (
+            "0 1.2 3.141592653589793 1.3 1.5 1.25 4.641592653589793 1.1",
+            [0.0, PI / 2.0],
+        ),
+    ];
+    for (operands, [lon, lat]) in table {
+        let text = format!("two-arcs {operands}\nend\n");
+        let listed = finder(&["list"], text.as_bytes()).text();
+        let (_, point) = listed.split_once("found at longitude ").expect(&listed);
+        let (found_lon, found_lat) = point.trim_end().split_once(", latitude ").expect(point);
+        let off = |found: &str, at: f64| (found.parse::<f64>().expect(found) - at).abs();
+        // At the pole any longitude is right.
+        let is_lon = off(found_lon, lon) < 1e-9 || lat == PI / 2.0;
+        assert!(is_lon && off(found_lat, lat) < 1e-9, "{listed}");
+    }
+}
+
+/// The crossing lies beyond an end; on the far side of a long arc; the planes are the same, are none, or can't be told by their lengths.
+#[test]
+fn two_arcs_that_do_not_cross() {
+    let apart = "the arcs don't cross";
+    let refused = "refused, status 12: the arcs' planes can't be told apart, or an arc has none";
+    let table = [
+        ("1 0 2 0 2.5 -0.3 2.5 0.4", apart),
+        ("1 0 2 0 1.5 0.1 1.5 0.4", apart),
+        ("1 0 2 0 4.6 -0.3 4.6 0.4", apart),
+        ("0.5 0 3.4 0 5.1 -0.3 5.1 0.4", apart),
+        ("1 0 2 0 1.5 0 3 0", refused),
+        ("1 0.3 2 0.4 1 0.3 2 0.4", refused),
+        ("1 0.3 2 0.4 2 0.4 1 0.3", refused),
+        ("1 0.3 1 0.3 0.9 0.3 1.2 0.3", refused),
+        ("0 0.8 3.141592653589793 -0.8 1 0 2 1", refused),
+        ("1 -1e-170 1 1e-170 0.9 -0.1 1.1 0.1", refused),
+    ];
+    for (operands, words) in table {
+        let text = format!("two-arcs {operands}\nend\n");
+        let listed = finder(&["list"], text.as_bytes()).text();
+        assert!(
+            listed.ends_with(&format!("          {words}\n")),
+            "{listed}"
+        );
+    }
+}
+
 #[test]
 fn listed_in_degrees() {
-    let text = "degrees\nprecision 1e-9\nallowance 20\narc 90 bits:7FF0000000000000 45 -30\ncone-in-equator 0.276 0.199 0.1 north\nradians\narc 1e307 0 0 0\ndegrees\nparallel 30 0 60 45 0.5\nend\n";
+    let text = "degrees\nprecision 1e-9\nallowance 20\narc 90 bits:7FF0000000000000 45 -30\ncone-in-equator 0.276 0.199 0.1 north\nradians\narc 1e307 0 0 0\ndegrees\nparallel 30 0 60 45 0.5\ntwo-arcs 10 30 30 30 20 -40 20 80\nend\n";
     let listing = "angles in degrees
    1  precision 1e-9
           set
@@ -214,7 +289,11 @@ fn listed_in_degrees() {
    6  parallel 30.0000000000 0.0000000000 60.0000000000 45.0000000000 0.5
           found at longitude ";
     let listed = finder(&["list", "--degrees"], text.as_bytes()).text();
+    // Halfway the first arc is at the latitude atan(tan(30°) / cos(10°)), on the meridian that is the second.
+    let end = "\n   7  two-arcs 10.0000000000 30.0000000000 30.0000000000 30.0000000000 20.0000000000 -40.0000000000 20.0000000000 80.0000000000
+          found at longitude 20.0000000000, latitude 30.3812551425\n";
     let rest = listed.strip_prefix(listing).expect(&listed);
+    let rest = rest.strip_suffix(end).expect(&listed);
     // Where sin(lat) is a half the latitude is 30 degrees, and the longitude lies on the great circle.
     let (lon, lat) = rest.trim_end().split_once(", latitude ").expect(rest);
     assert_eq!(lat, "30.0000000000");

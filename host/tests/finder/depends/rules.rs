@@ -44,7 +44,7 @@ fn pairs_of_both_answers() {
     let mut maker = Maker::new(SEED);
     let mut answers = [0; 2];
     for _ in 0..PAIRS {
-        let a = maker.mixed(300).bytes;
+        let a = maker.mixed(340).bytes;
         let b = with_others(&a, &mut maker.random);
         let Some(replies) = expected::pair(&a, &b)
             .into_iter()
@@ -76,7 +76,7 @@ fn the_first_place_that_is_not_alike() {
     let mut maker = Maker::new(SEED);
     let mut answers = [0; 2];
     for _ in 0..PAIRS {
-        let a = maker.mixed(300).bytes;
+        let a = maker.mixed(340).bytes;
         let other = with_others(&a, &mut maker.random);
         let b = changed(&other, &mut maker.random);
         if rules::commands(&b).is_err() {
@@ -109,7 +109,7 @@ fn the_least_allowance_of_each_reply() {
     let mut maker = Maker::new(SEED);
     let mut answers = [0; 2];
     for _ in 0..ALONE {
-        let job = maker.mixed(150).bytes;
+        let job = maker.mixed(260).bytes;
         let Some(replies) = expected::alone(&job)
             .into_iter()
             .collect::<Option<Vec<_>>>()
