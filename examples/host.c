@@ -62,7 +62,7 @@ static void say_cone(const uint8_t *answer)
 static void say_crossing(uint8_t code, const uint8_t *answer)
 {
     int apart = code == FINDER_CODE_TWO_ARCS && answer[0] == FINDER_KIND_NO_ROOT;
-    printf("\n    %s", apart ? "the arcs don't cross" : kinds[answer[0]]);
+    printf("\n    %s", apart ? "no crossing found" : kinds[answer[0]]);
     if (answer[0] == FINDER_KIND_FOUND)
         say_point(answer + 1);
 }

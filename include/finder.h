@@ -122,7 +122,7 @@
 #define FINDER_KIND_REJECTED 2    /* the height is rejected after the walk */
 #define FINDER_KIND_FOUND 3       /* a point */
 #define FINDER_KIND_NOT_BETWEEN 4 /* the height is not strictly between the ends */
-#define FINDER_KIND_NO_ROOT 5     /* neither root passes the tests; of two arcs: neither candidate, they don't cross */
+#define FINDER_KIND_NO_ROOT 5     /* neither root passes the tests; of two arcs: neither candidate does */
 
 /* The slots of an arc's answer, in their order. A slot is kind, steps (one byte each), lon, lat (f64). */
 #define FINDER_SLOT_SOUTH_FIRST 0

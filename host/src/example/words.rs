@@ -74,7 +74,7 @@ pub fn kind(slot: &Slot) -> &'static str {
 /// The kind of a parallel's answer, or of that for two arcs.
 pub fn crossing(code: u8, slot: &Slot) -> &'static str {
     match (code, slot.kind) {
-        (TWO_ARCS, 5) => "the arcs don't cross",
+        (TWO_ARCS, 5) => "no crossing found",
         _ => kind(slot),
     }
 }

@@ -120,7 +120,7 @@ pub fn outcome(code: u8, kind: u8) -> &'static str {
         (_, 2) => "height rejected",
         (_, 3) => "found",
         (_, 4) => "height not between the ends",
-        (TWO_ARCS, 5) => "the arcs don't cross",
+        (TWO_ARCS, 5) => "no crossing found",
         (_, 5) => "neither root passes",
         _ => unreachable!("no answer has kind {kind}"),
     }

@@ -143,7 +143,7 @@ Every reply stays the same for every allowance. This file's own allowances settl
 ";
     assert_eq!(printed(&[&name], 0), expected);
     let listed = finder(&["list", &name], b"").text();
-    let outcomes = ["found at longitude", "the arcs don't cross", "status 12"];
+    let outcomes = ["found at longitude", "no crossing found", "status 12"];
     assert!(outcomes.iter().all(|it| listed.contains(it)), "{listed}");
     let paired = printed(&[&name, "--allowance", "9"], 0);
     assert!(

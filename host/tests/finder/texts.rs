@@ -202,11 +202,7 @@ fn listed_without_points() {
             "arc 1.2842388656527222 -0.2678237116066448 1.2991747463510848 -0.25479556955392063",
             "equator: neither root passes after 4 steps",
         ),
-        (
-            20,
-            "two-arcs 0 0 1 0.1 2 -0.1 2.1 0.3",
-            "the arcs don't cross",
-        ),
+        (20, "two-arcs 0 0 1 0.1 2 -0.1 2.1 0.3", "no crossing found"),
     ];
     for (allowance, command, words) in table {
         let text = format!("precision 1e-9\nallowance {allowance}\n{command}\nend\n");
@@ -248,7 +244,7 @@ fn two_arcs_that_cross() {
 /// The crossing lies beyond an end; on the far side of a long arc; the planes are the same, are none, or can't be told by their lengths.
 #[test]
 fn two_arcs_that_do_not_cross() {
-    let apart = "the arcs don't cross";
+    let apart = "no crossing found";
     let refused = "refused, status 12: the arcs' planes can't be told apart, or an arc has none";
     let table = [
         ("1 0 2 0 2.5 -0.3 2.5 0.4", apart),
