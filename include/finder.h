@@ -34,7 +34,7 @@
 #include <stdint.h>
 
 /*
- * The stack of a call. Measured, not proved: the comparison of job files has met at most 3,544 bytes, return address and `fmod` included, which
+ * The stack of a call. Measured, not proved: the comparison of job files has met at most 3,624 bytes, return address and `fmod` included, which
  * is also the longest chain of calls by the sizes of the frames; here is more than twice as much. A dynamic linker that looks `fmod` up at its
  * first call takes a part of this stack too (about 6,400 bytes in all where it was tried); linked statically or with -z now there is no such look-up.
  */
@@ -154,6 +154,13 @@ uint8_t finder_run(const uint8_t *job, size_t job_length, uint8_t *reply, size_t
  * of any other number with the sign bit and of every NaN it is the NaN 7FF8000000000000.
  */
 uint64_t finder_root(uint64_t bits);
+
+/*
+ * How many binary digits of that root are told, from the leading 1 (document 02, ask 4): the fewest that, with zeros after them, are the exact root,
+ * which is 1 to 27; 53 where none are; and 0 for a zero, negative, infinite or NaN argument. A count from 1 to 27 means that the root is exact and that
+ * the last digit counted is a 1; one of 53 that the root is rounded.
+ */
+uint64_t finder_root_digits(uint64_t bits);
 
 #ifdef __cplusplus
 }

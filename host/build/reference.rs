@@ -67,10 +67,10 @@ const COO3D_CALLS: [Edit; 5] = [
     edit(
         1,
         "use super::super::Customf64;",
-        "use super::super::{Counted, Customf64};",
+        "use super::super::{Customf64, Noted};",
     ),
-    edit(10, ".sqrt()", ".sqrt().counted()"),
-    edit(5, "crate::angles::atan2(", "super::super::counted::atan2("),
+    edit(10, ".sqrt()", ".noted_root()"),
+    edit(5, "crate::angles::atan2(", "super::super::noted::atan2("),
     // In lonlat_of, and in UnitVect3::lonlat.
     edit(
         1,
@@ -85,14 +85,10 @@ const COO3D_CALLS: [Edit; 5] = [
 ];
 
 const FINDER_CALLS: [Edit; 14] = [
-    edit(
-        1,
-        "use super::{Customf64,",
-        "use super::{Counted, Customf64,",
-    ),
-    edit(8, ".sqrt()", ".sqrt().counted()"),
-    edit(1, "crate::angles::atan2(", "super::counted::atan2("),
-    edit(2, "crate::angles::acos(", "super::counted::acos("),
+    edit(1, "use super::{Customf64,", "use super::{Customf64, Noted,"),
+    edit(8, ".sqrt()", ".noted_root()"),
+    edit(1, "crate::angles::atan2(", "super::noted::atan2("),
+    edit(2, "crate::angles::acos(", "super::noted::acos("),
     edit(
         4,
         "let mut n_iter = 0_u8;",

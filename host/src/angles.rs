@@ -10,8 +10,8 @@ fn series(u: f64, coefficients: &[f64]) -> f64 {
 }
 
 /// From the tangent of an angle to the tangent of its half.
-fn half_angle(t: f64) -> f64 {
-    t / (1.0 + (1.0 + t * t).sqrt())
+fn half_angle(root: impl Fn(f64) -> f64, t: f64) -> f64 {
+    t / (1.0 + root(1.0 + t * t))
 }
 
 /// ±1/n for n = 23, 21, .., 1.
@@ -27,21 +27,26 @@ const ARCTANGENT: [f64; 12] = {
 };
 
 /// The arctangent of a t from 0 to 1.
-fn arctangent(t: f64) -> f64 {
-    let t = half_angle(half_angle(t));
+fn arctangent(root: impl Fn(f64) -> f64, t: f64) -> f64 {
+    let t = half_angle(&root, half_angle(&root, t));
     series(t * t, &ARCTANGENT) * t * 4.0
 }
 
 pub fn atan2(y: f64, x: f64) -> f64 {
+    atan2_by(f64::sqrt, y, x)
+}
+
+/// The same by a root that is given.
+pub fn atan2_by(root: impl Fn(f64) -> f64, y: f64, x: f64) -> f64 {
     if !y.is_finite() || !x.is_finite() {
         return f64::NAN;
     }
     let mut a = if x == 0.0 && y == 0.0 {
         0.0
     } else if y.abs() <= x.abs() {
-        arctangent(y.abs() / x.abs())
+        arctangent(root, y.abs() / x.abs())
     } else {
-        FRAC_PI_2 - arctangent(x.abs() / y.abs())
+        FRAC_PI_2 - arctangent(root, x.abs() / y.abs())
     };
     if x.is_sign_negative() {
         a = PI - a;
@@ -50,8 +55,14 @@ pub fn atan2(y: f64, x: f64) -> f64 {
 }
 
 pub fn acos(c: f64) -> f64 {
+    acos_by(f64::sqrt, c)
+}
+
+/// The same by a root that is given.
+pub fn acos_by(root: impl Fn(f64) -> f64, c: f64) -> f64 {
     if (-1.0..=1.0).contains(&c) {
-        atan2(((1.0 - c) * (1.0 + c)).sqrt(), c)
+        let sine = root((1.0 - c) * (1.0 + c));
+        atan2_by(root, sine, c)
     } else {
         f64::NAN
     }

@@ -9,6 +9,7 @@ pub mod commands;
 pub mod comparison;
 #[cfg(reference)]
 pub mod crossings;
+pub mod digits;
 #[cfg(reference)]
 pub mod example;
 pub mod finder;
@@ -28,6 +29,7 @@ pub mod random;
 pub mod reference;
 #[cfg(reference)]
 pub mod rules;
+pub mod squares;
 #[cfg(reference)]
 pub mod stored_answers;
 #[cfg(reference)]
@@ -40,6 +42,7 @@ pub const CANONICAL_NAN: u64 = 0x7FF8_0000_0000_0000;
 
 unsafe extern "C" {
     fn finder_root(bits: u64) -> u64;
+    fn finder_root_digits(bits: u64) -> u64;
 }
 
 /// The pattern of the square root of the f64 with the pattern `bits`.
@@ -47,6 +50,14 @@ unsafe extern "C" {
 pub fn root(bits: u64) -> u64 {
     // SAFETY: it takes every pattern, and reaches no memory but its own.
     unsafe { finder_root(bits) }
+}
+
+/// How many binary digits of that root are told: the fewest that, with zeros after them, are the exact root, 53 where none are, and 0 for an
+/// argument that isn't positive and finite.
+#[inline]
+pub fn root_digits(bits: u64) -> u64 {
+    // SAFETY: as for the root.
+    unsafe { finder_root_digits(bits) }
 }
 
 /// The pattern of a float, where all NaNs have one.

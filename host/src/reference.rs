@@ -70,7 +70,8 @@ const NO_WORK: Work = Work {
 thread_local! {
     static WORK: RefCell<Work> = const { RefCell::new(NO_WORK) };
     static SIZES: RefCell<Vec<f64>> = const { RefCell::new(Vec::new()) };
-    static ROOTS: Cell<u64> = const { Cell::new(0) };
+    /// The arguments of the roots, under `root_arguments`.
+    static ROOTS: RefCell<Option<Vec<f64>>> = const { RefCell::new(None) };
     static WATCHED: Cell<bool> = const { Cell::new(false) };
 }
 
@@ -131,42 +132,41 @@ fn turned(function: usize, y: f64) {
     note(|work| work.whole_turns[function][size] += 1);
 }
 
-/// Called on each root that is taken in the reference's own text.
-trait Counted {
-    fn counted(self) -> Self;
+/// The root in the reference's own text and in its angle functions: it notes its argument where those are wanted.
+trait Noted {
+    fn noted_root(self) -> Self;
 }
 
-impl Counted for f64 {
-    fn counted(self) -> f64 {
-        count_roots(1);
-        self
+impl Noted for f64 {
+    fn noted_root(self) -> f64 {
+        ROOTS.with_borrow_mut(|roots| {
+            if let Some(arguments) = roots {
+                arguments.push(self);
+            }
+        });
+        self.sqrt()
     }
 }
 
-fn count_roots(count: u64) {
-    ROOTS.set(ROOTS.get() + count);
-}
-
-/// The angle functions, with the roots that they take: two for an arctangent, one more for `acos`. Arguments that get neither are counted
-/// all the same.
-mod counted {
-    use super::count_roots;
+/// Document 01's angle functions, where each root that they take notes its argument too.
+mod noted {
+    use super::Noted;
     use crate::angles;
 
     pub fn atan2(y: f64, x: f64) -> f64 {
-        count_roots(2);
-        angles::atan2(y, x)
+        angles::atan2_by(f64::noted_root, y, x)
     }
 
     pub fn acos(c: f64) -> f64 {
-        count_roots(3);
-        angles::acos(c)
+        angles::acos_by(f64::noted_root, c)
     }
 }
 
-/// The number of roots taken so far.
-pub fn roots() -> u64 {
-    ROOTS.get()
+/// The arguments of all roots that are taken in this work.
+pub fn root_arguments(work: impl FnOnce()) -> Vec<f64> {
+    ROOTS.set(Some(Vec::new()));
+    work();
+    ROOTS.take().unwrap_or_default()
 }
 
 /// Why the reference gave no answer.

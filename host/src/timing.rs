@@ -12,7 +12,7 @@ use crate::plain_reference::{
 use crate::programs::median;
 use crate::random::Random;
 use crate::rules::{self, Settings};
-use crate::{finder, reference};
+use crate::{digits, finder, reference};
 use std::hint::black_box;
 use std::time::Instant;
 
@@ -94,14 +94,47 @@ fn file(random: &mut Random, draw: fn(&mut Random) -> Command) -> File {
     File { bytes, jobs }
 }
 
-/// The roots that the jobs of these files cost the reference: those of its text and of document 01's angle functions.
-fn roots(files: &[File]) -> u64 {
-    let settings = Settings::new(PRECISION, ALLOWANCE);
-    let before = reference::roots();
-    for job in files.iter().flat_map(|file| &file.jobs) {
-        rules::reply(job, &settings);
+/// Roots of exact squares are told apart by whether they have at most so many binary digits.
+const DIGITS: [u64; 2] = [7, 14];
+
+/// The roots that the jobs of a class cost the reference: those of its text and of document 01's angle functions.
+#[derive(Default)]
+struct Roots {
+    count: u64,
+    /// Those of exact squares, by their digits.
+    exact: [u64; DIGITS.len() + 1],
+}
+
+impl Roots {
+    fn of(files: &[File]) -> Roots {
+        let settings = Settings::new(PRECISION, ALLOWANCE);
+        let arguments = reference::root_arguments(|| {
+            for job in files.iter().flat_map(|file| &file.jobs) {
+                rules::reply(job, &settings);
+            }
+        });
+        let mut roots = Roots::default();
+        for argument in arguments {
+            roots.count += 1;
+            let told = digits::told(argument.to_bits());
+            if digits::EXACT.contains(&told) {
+                roots.exact[DIGITS.partition_point(|most| *most < told)] += 1;
+            }
+        }
+        roots
     }
-    reference::roots() - before
+
+    fn print_exact(&self) {
+        let exact: u64 = self.exact.iter().sum();
+        let share = 100.0 * exact as f64 / self.count as f64;
+        let ([few, more], [short, middle, long]) = (DIGITS, self.exact);
+        println!(
+            "    {exact} of all {} roots are of exact squares, {share:.2}%: \
+             {short} of at most {few} digits, {middle} of {} to {more}, {long} of more",
+            self.count,
+            few + 1
+        );
+    }
 }
 
 /// The nanoseconds that the file takes in the finder.
@@ -177,12 +210,14 @@ pub fn run() {
         let random = &mut Random::new(SEED);
         let files: Vec<_> = (0..FILES).map(|_| file(random, draw)).collect();
         let jobs = files.iter().map(|file| file.jobs.len()).sum::<usize>() as f64;
-        let roots = roots(&files) as f64 / jobs;
+        let roots = Roots::of(&files);
+        let each = roots.count as f64 / jobs;
         let [finder, reference] = times(&files).map(|time| time / jobs);
         let ratio = finder / reference;
         println!(
             "{name}: finder {finder:.0} ns, reference {reference:.0} ns, ratio {ratio:.2}; \
-             {roots:.1} roots in the reference"
+             {each:.1} roots in the reference"
         );
+        roots.print_exact();
     }
 }

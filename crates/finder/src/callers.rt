@@ -4,6 +4,7 @@
 ghost use mathlib.Core.Path.{_≡_};
 ghost use lib.Ieee.{binary64, ofBits, toBits};
 ghost use Rattle.root.specs.Root.{rootOf};
+ghost use Rattle.root.specs.RootDigits.{digitsOf};
 ghost use Rattle.jobs.specs.Files.{ran, runFile};
 
 fn any_run(job: &[u8], reply: &mut [u8], place: &mut u64, written: &mut u64) -> u8
@@ -16,4 +17,10 @@ fn any_root(bits: u64) -> u64
     ensures { λ r. ⌜ r ≡ toBits binary64 (rootOf (ofBits binary64 bits)) ⌝ }
 {
     super::finder_root(bits)
+}
+
+fn any_root_digits(bits: u64) -> u64
+    ensures { λ n. ⌜ n ≡ digitsOf (ofBits binary64 bits) ⌝ }
+{
+    super::finder_root_digits(bits)
 }

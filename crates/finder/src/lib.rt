@@ -7,6 +7,7 @@ use root::patterns;
 ghost use mathlib.Core.Path.{_≡_};
 ghost use lib.Ieee.{binary64, ofBits, toBits};
 ghost use Rattle.root.specs.Root.{rootOf};
+ghost use Rattle.root.specs.RootDigits.{digitsOf};
 ghost use Rattle.jobs.specs.Files.{ran, runFile};
 
 // Answers the number of the file's refusal, or 0. The place and the number of bytes written stand behind the references.
@@ -25,5 +26,14 @@ pub extern "C" fn finder_run(job: &[u8], reply: &mut [u8], place: &mut u64, writ
 pub extern "C" fn finder_root(bits: u64) -> u64
     ensures { λ r. ⌜ r ≡ toBits binary64 (rootOf (ofBits binary64 bits)) ⌝ }
 {
-    patterns::bits_of(root::root(patterns::float_of(bits)))
+    root::root_of_bits(bits)
+}
+
+// How many binary digits of that root are told, from the leading 1: the fewest that, with zeros after them, are the exact root; 53 where none are, and
+// 0 for a zero, negative, infinite or NaN argument.
+#[no_mangle]
+pub extern "C" fn finder_root_digits(bits: u64) -> u64
+    ensures { λ n. ⌜ n ≡ digitsOf (ofBits binary64 bits) ⌝ }
+{
+    root::root_told(patterns::float_of(bits)).digits
 }

@@ -2,7 +2,7 @@
 -- proofs/Middle.antt compares their squares, and the comparison is carried back to fractions.
 use mathlib.Core.Path.{_≡_, refl, sym, ap, _∙_, subst}
 use Prim.Native.Nat.{ℕ, zero, suc, _+_, _-_, _*_, _/_, _%_, _^_, _≤_, _<_}
-use native.Mathlib.Nat.{le-trans, le-of-eq, le-of-suc-le-suc, lt-of-not-le, not-le-of-lt, lt-of-lt-of-le, zero-mul, mul-one, mul-comm, mul-assoc, mul-le-mul, mul-lt-mul-of-pos-right, lt-of-mul-lt-mul-right, mul-pos}
+use native.Mathlib.Nat.{le-trans, le-of-eq, le-of-suc-le-suc, lt-of-not-le, not-le-of-lt, lt-of-lt-of-le, zero-mul, mul-one, mul-comm, mul-assoc, mul-le-mul, mul-lt-mul-of-pos-right, lt-of-mul-lt-mul-right, mul-pos, mul-div-cancel}
 use native.Mathlib.Omega.{arith}
 use mathlib.Core.Bool.{true, false, _&&_, true≢false}
 use lib.IntN.{ℤ, pos, negsuc}
@@ -15,10 +15,12 @@ use lib.Ieee.Fits.{and-l, and-r}
 use lib.Ieee.Bits.{ofBits-fits}
 use lib.Ieee.Exact.{HasValue, odd-sign}
 use lib.Ieee.Positive.{num, den, positive, den-pos, value→cross, positive-of-value, value-pos, first-pos}
+use Rattle.whole_root.specs.Roots.{IsNearest}
 use Rattle.root.specs.Root.{nearestRoot, rootOfSquare, rootOf}
+use Rattle.root.specs.RootDigits.{digitsOfWhole, digitsOfSquare, digitsOf}
 use Rattle.root.specs.Nearest.{notNegative, Value, fourTimes, squareOfSum}
-use Rattle.root.proofs.Whole.{IsNearest, nearest-is, nearest-long}
-use Rattle.root.proofs.Bits.{root-of-units, moved, doubled, square-root, cut-exact, written}
+use Rattle.root.proofs.Whole.{nearest-is, nearest-long}
+use Rattle.root.proofs.Bits.{of-units, moved, doubled, square-root, square-digits, cut-exact, written}
 use Rattle.root.proofs.Middle.{upper, lower}
 
 -- ---- a value of the format that is finite and not negative is n * 2 ^ j units, with n below 2 ^ 53
@@ -69,13 +71,16 @@ in-units (fin false (suc m) e) h p =
 -- ---- x as m * 2 ^ g / 2 ^ 2148, with m of 53 digits
 
 -- x is X units, and its root is near to q * 2 ^ k units, where X * 2 ^ 1074 is a * 4 ^ k
-record Rooted (x : Float) (X a q k : ℕ) : Type 0 where
-  of : HasValue x false X (2 ^ 1074)
-  square : X * 2 ^ 1074 ≡ a * (2 ^ k * 2 ^ k)
-  wide : 2 ^ 104 ≤ a
-  near : IsNearest a q
-  is : HasValue (rootOf x) false (q * 2 ^ k) (2 ^ 1074)
-  held : T (fits binary64 (rootOf x))
+pub record Rooted (x : Float) (X a q k : ℕ) : Type 0 where
+  pub of : HasValue x false X (2 ^ 1074)
+  pub square : X * 2 ^ 1074 ≡ a * (2 ^ k * 2 ^ k)
+  pub wide : 2 ^ 104 ≤ a
+  pub short : a < 4 ^ 53
+  pub zeros : a / 2 ^ 52 * 2 ^ 52 ≡ a
+  pub near : IsNearest a q
+  pub is : HasValue (rootOf x) false (q * 2 ^ k) (2 ^ 1074)
+  pub held : T (fits binary64 (rootOf x))
+  pub told : digitsOf x ≡ digitsOfWhole a
 
 rooted : (x : Float) (n j : ℕ) → InUnits x n j → 0 < n → (a : ℕ) × (q : ℕ) × (k : ℕ) × Rooted x (n * 2 ^ j) a q k
 rooted x n j i p =
@@ -91,7 +96,9 @@ rooted x n j i p =
     let a = m * 2 ^ (g % 2) * 2 ^ 52 in
     let k = (g - 52) / 2 in
     let q = nearestRoot a in
-    let r : rootOf x ≡ rootOfSquare (m * 2 ^ g) = root-of-units x X (i .value) (mul-pos p (pow-pos j)) ∙ ap rootOfSquare e in (
+    let near : IsNearest a q = nearest-is a (omega (arith, d .least)) (omega (arith, d .most)) in
+    let u = of-units x X (i .value) (mul-pos p (pow-pos j)) in
+    let r : rootOf x ≡ rootOfSquare (m * 2 ^ g) = u .root ∙ ap rootOfSquare e in (
       a,
       q,
       k,
@@ -99,9 +106,12 @@ rooted x n j i p =
         of = i .value;
         square = e ∙ cut-exact m g w ∙ ap (λ (z : ℕ). a * z) (twice k);
         wide = omega (arith, d .least);
-        near = nearest-is a (omega (arith, d .least)) (omega (arith, d .most));
+        short = omega (arith, d .most);
+        zeros = ap (λ (z : ℕ). z * 2 ^ 52) (mul-div-cancel (m * 2 ^ (g % 2)) (pow-pos 52));
+        told = u .digits ∙ ap digitsOfSquare e ∙ square-digits m g (f .least) (f .most) w;
+        near = near;
         is = subst (λ (z : Float). HasValue z false (q * 2 ^ k) (2 ^ 1074)) (sym (r ∙ square-root m g (f .least) (f .most) w)) (odd-sign 53 false q k 1074);
-        held = subst (λ (z : Float). T (fits binary64 z)) (written m g (f .least) (f .most) w (few g (f .least) e) q refl .1 ∙ sym r) (ofBits-fits binary64 (k * 2 ^ 52 + q));
+        held = subst (λ (z : Float). T (fits binary64 z)) (written m g (f .least) (f .most) w (few g (f .least) e) q near .1 ∙ sym r) (ofBits-fits binary64 (k * 2 ^ 52 + q));
       },
     )
   where
@@ -241,9 +251,12 @@ module _ (x : Float) (X a q k : ℕ) (r : Rooted x X a q k) where
         down = λ y v. let i = in-units y (v .0) (v .1) in nearer-down y (i .0) (i .1) (i .2);
       }
 
-pub root-is-nearer : (x : Float) → T (fits binary64 x) → T (positive x) → Nearer x (rootOf x)
-root-is-nearer x h p =
+pub root-in-units : (x : Float) → T (fits binary64 x) → T (positive x) → (X : ℕ) × (a : ℕ) × (q : ℕ) × (k : ℕ) × Rooted x X a q k
+root-in-units x h p =
     let i = in-units x h (not-negative x p) in
     let X = i .0 * 2 ^ i .1 in
     let r = rooted x (i .0) (i .1) (i .2) (first-pos (i .0) (2 ^ i .1) (value-pos x X (2 ^ 1074) p (pow-pos 1074) (i .2 .value))) in
-    nearest-of x X (r .0) (r .1) (r .2) (r .3)
+    (X, r .0, r .1, r .2, r .3)
+
+pub root-is-nearer : (x : Float) → T (fits binary64 x) → T (positive x) → Nearer x (rootOf x)
+root-is-nearer x h p = let r = root-in-units x h p in nearest-of x (r .0) (r .1) (r .2) (r .3) (r .4)

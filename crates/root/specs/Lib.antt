@@ -1,4 +1,6 @@
 pub mod Root
 pub mod Nearest
-pub mod Digits
+pub mod RootDigits
+pub mod Parts
 pub mod RootExamples
+pub mod DigitsExamples

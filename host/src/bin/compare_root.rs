@@ -1,10 +1,13 @@
-//! Compares `root` with the machine's square root, bit for bit.
+//! Compares `root` with the machine's square root, bit for bit, and `root_digits` with document 02's count in whole numbers.
 //!
-//! `compare_root [count]`, where `count` is the number of random patterns.
+//! `compare_root [count]`, where `count` is the number of random patterns. Fails if a root or a count differs, or if a count that can be told never
+//! was, or none of an exact root among the subnormal numbers.
 
 use host::programs::count_argument;
 use host::random::Random;
-use host::{root, CANONICAL_NAN};
+use host::squares::{even_power, extreme_roots, odd_root, powers, scaled_pattern, LARGEST_ROOT};
+use host::{digits, root, root_digits, CANONICAL_NAN};
+use std::collections::BTreeMap;
 use std::process::ExitCode;
 
 const SEED: u64 = 0x526F_6F74;
@@ -20,33 +23,102 @@ const SMALLEST_NORMAL: u64 = 0x0010_0000_0000_0000;
 const LARGEST_FINITE: u64 = 0x7FEF_FFFF_FFFF_FFFF;
 const INFINITY: u64 = 0x7FF0_0000_0000_0000;
 const QUIET: u64 = 1 << 51;
-/// The largest n with n * n below 2^53.
-const LARGEST_ROOT: u64 = 94_906_265;
 
 #[derive(Default)]
 struct Comparison {
     compared: u64,
-    differ: u64,
+    roots_differ: u64,
+    digits_differ: u64,
+    /// How often each count of digits was due.
+    told: BTreeMap<u64, u64>,
+    exact_subnormals: u64,
 }
 
 impl Comparison {
     fn compare(&mut self, name: &str, patterns: impl IntoIterator<Item = u64>) {
-        let (mut compared, mut differ) = (0, 0);
+        let before = (self.compared, self.roots_differ, self.digits_differ);
         for bits in patterns {
-            let (answer, expected) = (root(bits), expected_root(bits));
-            compared += 1;
-            if answer != expected {
-                differ += 1;
-                if self.differ + differ <= MOST_SHOWN {
-                    println!(
-                        "{name}: the root of {bits:#018x} is {expected:#018x}, not {answer:#018x}"
-                    );
-                }
+            self.compared += 1;
+            self.compare_root(name, bits);
+            self.compare_digits(name, bits);
+        }
+        let compared = self.compared - before.0;
+        let roots = self.roots_differ - before.1;
+        let counts = self.digits_differ - before.2;
+        println!("{name}: {compared} patterns, {roots} roots and {counts} counts of digits differ");
+    }
+
+    fn compare_root(&mut self, name: &str, bits: u64) {
+        let (answer, expected) = (root(bits), expected_root(bits));
+        if answer != expected {
+            self.roots_differ += 1;
+            if self.roots_differ <= MOST_SHOWN {
+                println!(
+                    "{name}: the root of {bits:#018x} is {expected:#018x}, not {answer:#018x}"
+                );
             }
         }
-        println!("{name}: {compared} patterns, {differ} differ");
-        self.compared += compared;
-        self.differ += differ;
+    }
+
+    fn compare_digits(&mut self, name: &str, bits: u64) {
+        let (answer, expected) = (root_digits(bits), digits::told(bits));
+        *self.told.entry(expected).or_default() += 1;
+        if bits <= LARGEST_SUBNORMAL && digits::EXACT.contains(&expected) {
+            self.exact_subnormals += 1;
+        }
+        if answer != expected {
+            self.digits_differ += 1;
+            if self.digits_differ <= MOST_SHOWN {
+                println!(
+                    "{name}: of the root of {bits:#018x} {expected} digits are told, not {answer}"
+                );
+            }
+        }
+    }
+
+    fn times_told(&self, count: u64) -> u64 {
+        self.told.get(&count).copied().unwrap_or(0)
+    }
+
+    /// What is due and was never seen.
+    fn missing(&self) -> Vec<String> {
+        let due = digits::EXACT.chain([0, digits::INEXACT]);
+        let unseen = due.filter(|count| self.times_told(*count) == 0);
+        let counts = unseen.map(|count| format!("a count of {count}"));
+        let subnormal = "a count of an exact root of a subnormal number".to_string();
+        let subnormal = (self.exact_subnormals == 0).then_some(subnormal);
+        counts.chain(subnormal).collect()
+    }
+
+    fn print(&self) {
+        let exact = digits::EXACT.map(|count| self.times_told(count));
+        println!(
+            "root: {} patterns compared, {} differ",
+            self.compared, self.roots_differ
+        );
+        println!(
+            "digits: {} told, {} differ; exact {}, 53 {}, 0 {}; exact of subnormal numbers {}",
+            self.compared,
+            self.digits_differ,
+            exact.sum::<u64>(),
+            self.times_told(digits::INEXACT),
+            self.times_told(0),
+            self.exact_subnormals
+        );
+        let counts = digits::EXACT.map(|count| format!("{count}: {}", self.times_told(count)));
+        println!(
+            "exact, by the count: {}",
+            counts.collect::<Vec<_>>().join(", ")
+        );
+    }
+
+    /// Says what is missing, and whether all is well.
+    fn verdict(&self) -> bool {
+        let missing = self.missing();
+        for what in &missing {
+            println!("digits: FAILED, not seen: {what}");
+        }
+        self.roots_differ == 0 && self.digits_differ == 0 && missing.is_empty()
     }
 }
 
@@ -94,18 +166,6 @@ fn subnormals(random: &mut Random) -> Vec<u64> {
     patterns
 }
 
-/// The pattern of a significand of at most 53 bits times a power of two, as a normal number.
-fn pattern(significand: u64, power: i64) -> u64 {
-    let shift = significand.leading_zeros() - 11;
-    let field = power - i64::from(shift) + 1075;
-    (field as u64) << 52 | (significand << shift) & FRACTION
-}
-
-/// An even power of two: it and the next keep every significand a finite normal number.
-fn even_power(random: &mut Random) -> i64 {
-    2 * random.below(997) as i64 - 1022
-}
-
 fn squares(random: &mut Random) -> Vec<u64> {
     let mut patterns = Vec::new();
     let drawn = (0..500_000).map(|_| 1 + random.below(LARGEST_ROOT));
@@ -113,11 +173,23 @@ fn squares(random: &mut Random) -> Vec<u64> {
     for n in roots {
         let power = even_power(random);
         for power in [0, power, power + 1] {
-            patterns.extend(with_neighbours(pattern(n * n, power)));
+            patterns.extend(with_neighbours(scaled_pattern(n * n, power)));
         }
         if n < 1 << 26 {
-            // n * n * 2^-1074
-            patterns.extend(with_neighbours(n * n));
+            patterns.extend(with_neighbours(scaled_pattern(n * n, -1074)));
+        }
+    }
+    patterns
+}
+
+/// Squares of roots with every number of digits, at every scale; at every other, where the power of two is odd, twice such squares.
+fn squares_at_every_scale(random: &mut Random) -> Vec<u64> {
+    let mut patterns = Vec::new();
+    for digits in digits::EXACT {
+        let drawn = (0..8).map(|_| odd_root(random, digits));
+        for n in extreme_roots(digits).into_iter().chain(drawn) {
+            let scaled = powers(n * n).map(|power| scaled_pattern(n * n, power));
+            patterns.extend(scaled.flat_map(with_neighbours));
         }
     }
     patterns
@@ -131,7 +203,7 @@ fn trailing_zeros(random: &mut Random) -> Vec<u64> {
             let significand = (top + random.below(top)) << zeros;
             let power = even_power(random);
             for power in [power, power + 1] {
-                patterns.extend(with_neighbours(pattern(significand, power)));
+                patterns.extend(with_neighbours(scaled_pattern(significand, power)));
             }
         }
     }
@@ -143,7 +215,7 @@ fn about_midpoint(n: u64, random: &mut Random) -> [u64; 4] {
     let product = u128::from(n) * u128::from(n + 1);
     let shift = 75 - product.leading_zeros();
     let power = even_power(random) + i64::from(shift % 2);
-    let down = pattern((product >> shift) as u64, power);
+    let down = scaled_pattern((product >> shift) as u64, power);
     [down - 1, down, down + 1, down + 2]
 }
 
@@ -192,13 +264,16 @@ fn main() -> ExitCode {
     comparison.compare("every exponent", every_exponent(&mut random));
     comparison.compare("subnormals", subnormals(&mut random));
     comparison.compare("squares", squares(&mut random));
+    comparison.compare(
+        "squares at every scale",
+        squares_at_every_scale(&mut random),
+    );
     comparison.compare("trailing zeros", trailing_zeros(&mut random));
     comparison.compare("midpoints", midpoints(&mut random));
     comparison.compare("closest midpoints", closest_midpoints(&mut random));
     comparison.compare("random", (0..count).map(|_| random.next_u64()));
-    let Comparison { compared, differ } = comparison;
-    println!("root: {compared} patterns compared, {differ} differ");
-    if differ == 0 {
+    comparison.print();
+    if comparison.verdict() {
         ExitCode::SUCCESS
     } else {
         ExitCode::FAILURE

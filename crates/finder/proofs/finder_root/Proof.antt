@@ -1,19 +1,13 @@
--- The three contracts, one after the other.
+-- The contract of `root_of_bits`.
 use borrow.Author.Needs.{needs}
 use Rattle.finder.proofs.finder_root.Statement.{statement}
 use Rattle.finder.proofs.finder_root.Tie as tie
 
-float-of-requires : tie.Need-float-of-requires
-float-of-requires c κs = search needs
-
-root-requires : tie.Need-root-requires
-root-requires c κs = search needs
-
-bits-of-requires : tie.Need-bits-of-requires
-bits-of-requires c κs = search needs
+root-of-bits-requires : tie.Need-root-of-bits-requires
+root-of-bits-requires c κs = search needs
 
 returns : tie.Need-returns
-returns c = simp (← c .bits-of .ensures, ← c .before .root .ensures, ← c .before .before .float-of .ensures)
+returns c = cc (c .root-of-bits .ensures)
 
 pub finder-root-spec : {M : Type 1} → statement M
-finder-root-spec = tie.close (tie.spec float-of-requires root-requires bits-of-requires returns)
+finder-root-spec = tie.close (tie.spec root-of-bits-requires returns)
