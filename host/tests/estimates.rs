@@ -6,7 +6,7 @@ use std::fs;
 
 const TABLE: &str = concat!(
     env!("CARGO_MANIFEST_DIR"),
-    "/../crates/whole_root/src/curves.rt"
+    "/../crates/root_estimate/src/lib.rt"
 );
 const ROWS: usize = 64;
 /// So many points of each row are tried, evenly apart, and the last one.
@@ -57,7 +57,7 @@ fn curve(text: &str) -> [u64; 4] {
     numbers.try_into().expect("a curve has four numbers")
 }
 
-/// As `estimate` in curves.rt. It is proved of every row there that nothing here comes below 0.
+/// As `estimate` in that file. It is proved of every row there that nothing here comes below 0.
 fn estimate([a, b, c, e]: [u64; 4], d: u64) -> u64 {
     let dd = d * d / ALL_D;
     let bent = (c - e * d / ALL_D) * dd / ALL_D;

@@ -1,2 +1,1 @@
 pub mod Floats
-pub mod Constants

@@ -12,8 +12,8 @@ use lib.Ieee.Fits.{up-pos, down-pos, and-l, and-r}
 use lib.Ieee.Positive.{num, den, den-pos, positive, first-pos, le→cross, through, between}
 use lib.Ieee.Scale.{finite}
 use Rattle.root.specs.Root.{rootOf}
-use Rattle.root.specs.Nearest.{notNegative, Value}
-use Rattle.root.proofs.Nearest.{Nearer, root-is-nearer}
+use Rattle.root_rule.specs.Nearest.{notNegative, Value}
+use Rattle.root_rule.proofs.Nearest.{Nearer, root-is-nearer}
 use Rattle.angles.specs.Floats.{_⊕_, _⊖_, _⊗_, _⊘_, plusZero, one, signOf, absOf, signedOf}
 use Rattle.bounds.proofs.Order.{plusOf, minusOf, le→below, below→le, le-trans-at, finite-between, neg-finite, neg-mono}
 use Rattle.bounds.proofs.Order.{at-least-zero, at-most-zero, zero-sign, zero-least}

@@ -1,1 +1,1 @@
-// No code: what the angle functions never leave, and the laws of rounding by which it is shown.
+// No code: what the constants stand for, what the angle functions never leave, and the laws of rounding by which it is shown.

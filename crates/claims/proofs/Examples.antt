@@ -6,7 +6,7 @@ use mathlib.Core.Path.{_≡_, refl, ap, _∙_}
 use mathlib.Core.Bool.{Bool, false}
 use mathlib.Core.List.{List, [], _∷_, _++_}
 use Prim.Native.Nat.{ℕ}
-use Rattle.root.proofs.RootExamples.{root-examples}
+use Rattle.root_rule.proofs.RootExamples.{root-examples}
 use Rattle.angles.specs.Floats.{plusZero, one, absOf, finiteOf, minOf, maxOf}
 use Rattle.angles.specs.Constants.{half, two, transitionZ, leastLimit}
 use Rattle.newton.specs.Slopes.{haveSameSign}

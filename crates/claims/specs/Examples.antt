@@ -6,7 +6,7 @@ use Prim.Native.Nat.{ℕ}
 use mathlib.Core.Path.{_≡_}
 use mathlib.Core.Bool.{true, false}
 use mathlib.Core.List.{List, [], _∷_, _++_}
-use Rattle.root.specs.RootExamples.{RootExamples}
+use Rattle.root_rule.specs.RootExamples.{RootExamples}
 use Rattle.angles.specs.Floats.{plusZero, one}
 use Rattle.angles.specs.Constants.{half, two, three, transitionZ, leastLimit}
 use Rattle.newton.specs.Slopes.{haveSameSign}

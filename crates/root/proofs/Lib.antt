@@ -2,9 +2,3 @@ pub mod Whole
 pub mod Searched
 pub mod Nan
 pub mod Bits
-pub mod Middle
-pub mod Nearest
-pub mod Rounded
-pub mod RootDigits
-pub mod RootExamples
-pub mod DigitsExamples

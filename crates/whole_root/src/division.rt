@@ -1,6 +1,5 @@
 // The whole number nearest to a root: an estimate of thirty digits, and one division for the rest.
 
-use super::curves;
 ghost use mathlib.Core.Path.{_≡_};
 ghost use Prim.Native.Nat.{_+_, _*_, _^_, _≤_, _<_};
 ghost use Rattle.whole_root.specs.Roots.{IsNearest};
@@ -24,7 +23,7 @@ pub fn nearest_root(m: u64, pattern: u64) -> u64
     requires { ⌜ (2 ^ 52 ≤ m) × (m < 2 ^ 54) ⌝ }
     ensures { λ r. ⌜ ((r ≡ 0 → ⊥) → IsNearest (m * 2 ^ 52) r) ⌝ }
 {
-    let s = curves::estimate(pattern);
+    let s = root_estimate::estimate(pattern);
     let x = m * 64;
     if x < s * s {
         return 0;

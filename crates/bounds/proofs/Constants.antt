@@ -1,7 +1,7 @@
 -- Each pattern is the rounded number that its field names: both sides compute to the same float.
 use lib.Ieee.{ofBits, ofInt, mul, div, round}
 use mathlib.Core.Path.{refl}
-use Rattle.angles.specs.Constants.{Constants}
+use Rattle.bounds.specs.Constants.{Constants}
 
 pub constants : Constants
 unfolding ofBits ofInt mul div round

@@ -3,9 +3,9 @@ use Prim.Native.Nat.{ℕ, _-_, _*_, _/_, _%_, _^_, _≤_}
 use native.Mathlib.Nat.{mul-le-mul, mul-le-mul-left}
 use native.Mathlib.Omega.{arith}
 use borrow.Author.Needs.{needs}
-use Rattle.whole_root.specs.Division.{Curved}
-use Rattle.whole_root.proofs.curves.estimate.Statement.{statement}
-use Rattle.whole_root.proofs.curves.estimate.Tie as tie
+use Rattle.root_estimate.specs.Curves.{Curved}
+use Rattle.root_estimate.proofs.estimate.Statement.{statement}
+use Rattle.root_estimate.proofs.estimate.Tie as tie
 
 record Bounds (a b c e d : ℕ) : Type 0 where
   square : d * d ≤ (2 ^ 32 - 1) * (2 ^ 32 - 1)

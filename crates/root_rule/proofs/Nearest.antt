@@ -16,12 +16,12 @@ use lib.Ieee.Bits.{ofBits-fits}
 use lib.Ieee.Exact.{HasValue, odd-sign}
 use lib.Ieee.Positive.{num, den, positive, den-pos, value→cross, positive-of-value, value-pos, first-pos}
 use Rattle.whole_root.specs.Roots.{IsNearest}
 use Rattle.root.specs.Root.{nearestRoot, rootOfSquare, rootOf}
 use Rattle.root.specs.RootDigits.{digitsOfWhole, digitsOfSquare, digitsOf}
-use Rattle.root.specs.Nearest.{notNegative, Value, fourTimes, squareOfSum}
+use Rattle.root_rule.specs.Nearest.{notNegative, Value, fourTimes, squareOfSum}
 use Rattle.root.proofs.Whole.{nearest-is, nearest-long}
 use Rattle.root.proofs.Bits.{of-units, moved, doubled, square-root, square-digits, cut-exact, written}
-use Rattle.root.proofs.Middle.{upper, lower}
+use Rattle.root_rule.proofs.Middle.{upper, lower}
 
 -- ---- a value of the format that is finite and not negative is n * 2 ^ j units, with n below 2 ^ 53
 

@@ -14,11 +14,12 @@ use lib.Ieee.Positive.{num, den, positive, den-pos, value→cross}
 use Rattle.whole_root.specs.Roots.{IsNearest, Exact, Fewest}
 use Rattle.whole_root.proofs.Squares.{root-lt, all-places}
 use Rattle.whole_root.proofs.Zeros.{Multiple, halves}
 use Rattle.root.specs.Root.{rootOf}
-use Rattle.root.specs.RootDigits.{digitsOf, ExactRoot, FewestDigits, DigitsFewest, OneFewest, DigitsCounted, IsSquare, DigitsOfRoot, DigitsExact, DigitsInexact}
+use Rattle.root.specs.RootDigits.{digitsOf}
+use Rattle.root_rule.specs.DigitsRule.{ExactRoot, FewestDigits, DigitsFewest, OneFewest, DigitsCounted, IsSquare, DigitsOfRoot, DigitsExact, DigitsInexact}
 use Rattle.root.proofs.Whole.{one-nearest}
 use Rattle.root.proofs.Searched.{told-fewest, some-digit}
-use Rattle.root.proofs.Nearest.{Rooted, root-in-units}
+use Rattle.root_rule.proofs.Nearest.{Rooted, root-in-units}
 
 -- ---- whole numbers
 

@@ -1,7 +1,7 @@
 // Thirty digits of a root, by one of 64 curves of third degree.
 
 ghost use Prim.Native.Nat.{_-_, _^_, _≤_, _<_};
-ghost use Rattle.whole_root.specs.Division.{Curved};
+ghost use Rattle.root_estimate.specs.Curves.{Curved};
 
 // Of a curve a + b * d - c * d² + e * d³ the numbers a, b, c and e. With d from 0 to 1 across an interval it is near to the root of y * 2 ^ 58 for the
 // y of the interval.
@@ -80,7 +80,7 @@ fn curve_at(i: u64) -> Curve
 }
 
 // Thirty digits of a root. Of a pattern, the exponent's last digit and the first five of the fraction choose the curve, and the next 32 are d.
-// That the estimate is good is not promised: division.rt looks at each.
+// That the estimate is good is not promised: whole_root looks at each.
 pub fn estimate(pattern: u64) -> u64
     ensures { λ s. ⌜ (2 ^ 29 - 2 ^ 18 ≤ s) × (s < 2 ^ 31) ⌝ }
 {

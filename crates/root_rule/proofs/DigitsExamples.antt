@@ -2,10 +2,10 @@
 use mathlib.Core.Path.{refl}
 use lib.Dec.{lit≤}
 use lib.Ieee.{ofInt, neg, round, fits, nan}
-use Rattle.root.specs.Nearest.{two}
+use Rattle.root_rule.specs.Nearest.{two}
 use Rattle.root.specs.RootDigits.{digitsOf}
-use Rattle.root.specs.DigitsExamples.{nine, DigitsExamples}
-use Rattle.root.proofs.RootDigits.{digits-fewest, one-fewest, digits-counted, digits-exact, digits-inexact}
+use Rattle.root_rule.specs.DigitsExamples.{nine, DigitsExamples}
+use Rattle.root_rule.proofs.DigitsRule.{digits-fewest, one-fewest, digits-counted, digits-exact, digits-inexact}
 
 pub digits-examples : DigitsExamples
 unfolding digitsOf ofInt neg round fits

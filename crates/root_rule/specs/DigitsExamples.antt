@@ -6,9 +6,10 @@ use mathlib.Core.Bool.{true, false}
 use Prim.Native.Nat.{ℕ, _*_, _^_}
 use lib.IntN.{pos, negsuc}
 use lib.Ieee.{Float, nan, inf, binary64, ofInt, neg, round}
 use Rattle.root.specs.Root.{rootOf}
-use Rattle.root.specs.Nearest.{two}
-use Rattle.root.specs.RootDigits.{digitsOf, FewestDigits, CountOf, IsSquare, DigitsOfRoot}
+use Rattle.root_rule.specs.Nearest.{two}
+use Rattle.root.specs.RootDigits.{digitsOf}
+use Rattle.root_rule.specs.DigitsRule.{FewestDigits, CountOf, IsSquare, DigitsOfRoot}
 
 abbrev pub nine : Float
 nine = ofInt binary64 (pos 9)

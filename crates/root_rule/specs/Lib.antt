@@ -1,0 +1,4 @@
+pub mod Nearest
+pub mod DigitsRule
+pub mod RootExamples
+pub mod DigitsExamples
