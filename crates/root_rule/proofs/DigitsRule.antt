@@ -1,5 +1,5 @@
--- Of every value of the format above zero the digits told meet the rule of specs/RootDigits.antt, and mean what it says. In units x is a * 4 ^ k, and its
--- root q * 2 ^ k (proofs/Nearest.antt), so that x has the exact roots of a, moved (proofs/Searched.antt has the digits of a).
+-- Of every value of the format above zero the digits told meet the rule of specs/DigitsRule.antt, and mean what it says. In units x is a * 4 ^ k, and its
+-- root q * 2 ^ k (proofs/Nearest.antt), so that x has the exact roots of a, moved (proofs/Searched.antt of the crate root has the digits of a).
 use mathlib.Core.Path.{_≡_, refl, sym, ap, _∙_, subst}
 use mathlib.Core.Logic.{_⊎_, inl, inr, ⊎-elim}
 use mathlib.Core.Bool.{Bool, true, false, not}

@@ -1,5 +1,5 @@
 -- Examples of document 02, ask 4. Of 2 no digits are the exact root; the roots 2 and 2 ^ -537 have one digit, 3 and 3 / 2 two, the longest exact root
--- has 27; of a zero, a negative number, an infinity and NaN the count is 0. And each claim of specs/RootDigits.antt at a value that meets what it asks. The
+-- has 27; of a zero, a negative number, an infinity and NaN the count is 0. And each claim of specs/DigitsRule.antt at a value that meets what it asks. The
 -- claim; `proofs/DigitsExamples.antt` proves it.
 use mathlib.Core.Path.{_≡_}
 use mathlib.Core.Bool.{true, false}
