@@ -1,53 +1,45 @@
 //! The estimates that the root's division starts from. No proof says that an estimate is good, and the root does not need it: where one isn't, the
-//! digit loop works out the same answer, only more slowly. So nothing else would notice a bad row of the table. This test says that every estimate
-//! is good: no normal number takes the loop.
+//! digit loop works out the same answer, only more slowly. So nothing else would notice a bad row of the table. This test says that the estimates
+//! are good, at the points that it tries.
 
 use std::fs;
-use std::ops::Range;
-use std::thread;
 
 const TABLE: &str = concat!(
     env!("CARGO_MANIFEST_DIR"),
     "/../crates/root_estimate/src/lib.rt"
 );
-const ROWS: usize = 256;
+const ROWS: usize = 64;
+/// So many points of each row are tried, evenly apart, and the last one.
+const STEPS: u64 = 1 << 14;
 /// There are so many d, and so many ways in which the fraction goes on after one.
 const ALL_D: u64 = 1 << 32;
-const ALL_ENDS: u64 = 1 << 13;
-/// What division.rt asks of an estimate: that its square leaves at most so many times itself.
-const MOST_LEFT: u64 = 8;
+const ALL_ENDS: u64 = 1 << 15;
 
-/// The three numbers of a curve.
-#[derive(Clone, Copy)]
-struct Curve {
-    a: u64,
-    b: u64,
-    c: u64,
+/// An estimate, and the number whose root it is to be.
+struct Tried {
+    row: u64,
+    d: u64,
+    estimate: u64,
+    number: u64,
 }
 
-impl Curve {
-    /// As `estimate` in that file, before the last 32 digits are dropped. It is proved of every row there that nothing here comes below 0.
-    fn at(self, d: u64) -> u64 {
-        let dd = d * d / ALL_D;
-        self.a + self.b * d - self.c * dd
+impl Tried {
+    /// What the estimate's square leaves of the number, if it isn't above it.
+    fn left(&self) -> Option<u64> {
+        self.number.checked_sub(self.estimate * self.estimate)
     }
 
-    fn estimate(self, d: u64) -> u64 {
-        self.at(d) / ALL_D
-    }
-
-    /// The first d, from this one on, with an estimate of at least so much, or `ALL_D`. From one d to the next the curve rises by at most b, so no
-    /// step passes it.
-    fn first(self, mut d: u64, estimate: u64) -> u64 {
-        while d < ALL_D && self.estimate(d) < estimate {
-            d += (estimate * ALL_D - self.at(d)).div_ceil(self.b);
-        }
-        d.min(ALL_D)
+    fn assert(&self, good: bool) {
+        assert!(
+            good,
+            "row {}, d {}: {} for the root of {}",
+            self.row, self.d, self.estimate, self.number
+        );
     }
 }
 
-/// The rows, each with its curve.
-fn table() -> Vec<Curve> {
+/// The rows, each with the four numbers of its curve.
+fn table() -> Vec<[u64; 4]> {
     let text = fs::read_to_string(TABLE).expect("the table can be read");
     let lines = text.lines().map(str::trim);
     let rows = lines.filter_map(|line| line.split_once(" => Curve("));
@@ -58,50 +50,65 @@ fn table() -> Vec<Curve> {
     curves.into_iter().map(curve).collect()
 }
 
-fn curve(text: &str) -> Curve {
+fn curve(text: &str) -> [u64; 4] {
     let numbers = text.strip_suffix("),").expect("the row is closed");
     let numbers = numbers.split(", ").map(|number| number.parse::<u64>());
     let numbers: Vec<u64> = numbers.map(|number| number.expect("a number")).collect();
-    let [a, b, c] = numbers.try_into().expect("a curve has three numbers");
-    Curve { a, b, c }
+    numbers.try_into().expect("a curve has four numbers")
+}
+
+/// As `estimate` in that file. It is proved of every row there that nothing here comes below 0.
+fn estimate([a, b, c, e]: [u64; 4], d: u64) -> u64 {
+    let dd = d * d / ALL_D;
+    let bent = (c - e * d / ALL_D) * dd / ALL_D;
+    a + b * d / ALL_D - bent
 }
 
 /// The number with this d and this end of the fraction, as division.rt scales it.
-fn number(row: usize, d: u64, end: u64) -> u64 {
-    let fraction = (row as u64 % 128) << 45 | d << 13 | end;
+fn number(row: u64, d: u64, end: u64) -> u64 {
+    let fraction = (row % 32) << 47 | d << 15 | end;
     let from_1_to_2 = 1 << 52 | fraction;
-    // The second half of the table is for the numbers from 2 to 4.
-    let scaled = if row < 128 {
-        from_1_to_2
-    } else {
+    // The first half of the table is for the numbers from 2 to 4.
+    let scaled = if row < 32 {
         2 * from_1_to_2
+    } else {
+        from_1_to_2
     };
     64 * scaled
 }
 
-/// Looks at every estimate of a row, at the least and the greatest number that has it.
-fn look_at(row: usize, curve: Curve) {
-    assert!(2 * curve.c < curve.b, "row {row}: the curve always rises");
-    let mut d = 0;
-    while d < ALL_D {
-        let estimate = curve.estimate(d);
-        let next = curve.first(d, estimate + 1);
-        let square = estimate * estimate;
-        let (least, most) = (number(row, d, 0), number(row, next - 1, ALL_ENDS - 1));
-        assert!(
-            square <= least && most - square <= MOST_LEFT * estimate,
-            "row {row}: {estimate} for the roots of {least} to {most}"
-        );
-        d = next;
+fn for_each_tried(look: impl Fn(Tried)) {
+    for (row, curve) in (0..).zip(table()) {
+        let evenly = (0..STEPS).map(|step| step * (ALL_D / STEPS));
+        for d in evenly.chain([ALL_D - 1]) {
+            for end in [0, ALL_ENDS - 1] {
+                look(Tried {
+                    row,
+                    d,
+                    estimate: estimate(curve, d),
+                    number: number(row, d, end),
+                });
+            }
+        }
     }
 }
 
+/// What division.rt asks of an estimate.
 #[test]
 fn the_division_takes_every_estimate() {
-    let table = table();
-    let rows = |rows: Range<usize>| rows.for_each(|row| look_at(row, table[row]));
-    thread::scope(|scope| {
-        scope.spawn(|| rows(0..ROWS / 2));
-        rows(ROWS / 2..ROWS);
+    for_each_tried(|tried| {
+        let most = 12 * tried.estimate;
+        tried.assert(tried.left().is_some_and(|left| left <= most));
+    });
+}
+
+/// At these points an estimate is the whole root or up to 4 less, and leaves less than 9.5 times itself. Between them some leave up to 9.74 times.
+#[test]
+fn every_estimate_is_near() {
+    for_each_tried(|tried| {
+        let near = tried.estimate..=tried.estimate + 4;
+        tried.assert(near.contains(&tried.number.isqrt()));
+        let most = 19 * tried.estimate;
+        tried.assert(tried.left().is_some_and(|left| 2 * left < most));
     });
 }

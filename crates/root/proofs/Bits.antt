@@ -211,9 +211,6 @@ parted b m g l h w u r =
           ∙ sym r.digits;
     }
 
-pub same_parted : {b m k x y : ℕ} → x ≡ m → y ≡ k → Parted b m k → Parted b x y
-same_parted {b} {m} {k} {x} {y} e f p = subst (λ (z : ℕ). Parted b z y) (sym e) (subst (Parted b m) (sym f) p)
-
 -- ---- below zero, and a NaN
 
 root_of_negative : (v : Float) (a : ℕ) → HasValue v true a (2 ^ 1074) → 0 < a → root_of v ≡ nan

@@ -54,22 +54,28 @@ pub fn root_told(x: f64) -> ToldRoot
     }
 }
 
-// The square root on bit patterns, for every pattern: a NaN answer is 7FF8000000000000. Where the division answers, no float is made on the way, which
-// would take longer.
+// The square root of x.
+pub fn root(x: f64) -> f64
+    ensures { result ≡ root_of x }
+{
+    if x != x {
+        return x;
+    }
+    let r = normal::divided(f64::to_bits(x));
+    if r != 0 {
+        return f64::from_bits(r);
+    }
+    root_told(x).root
+}
+
+// The same on bit patterns, for every pattern: a NaN answer is 7FF8000000000000. Where the division answers, no float is made on the way, which would take
+// longer.
 pub fn root_of_bits(bits: u64) -> u64
-    ensures value { result ≡ to_bits binary64 (root_of (of_bits binary64 bits)) }
-    ensures result_value { of_bits binary64 result ≡ root_of (of_bits binary64 bits) }
+    ensures { result ≡ to_bits binary64 (root_of (of_bits binary64 bits)) }
 {
     let r = normal::divided(bits);
     if r != 0 {
         return r;
     }
     patterns::bits_of(root_told(patterns::float_of(bits)).root)
-}
-
-// The square root of x.
-pub fn root(x: f64) -> f64
-    ensures { result ≡ root_of x }
-{
-    patterns::float_of(root_of_bits(patterns::bits_of(x)))
 }

@@ -9,11 +9,13 @@ ghost use Rattle.root.specs.Parts.{Parted, Told};
 use super::patterns::{EXPONENT, INFINITY};
 use whole_root::{digits, division};
 
-// The root of a number is that of m * 2 ^ 52, packed with k in the exponent's field.
+// The root of a number is that of m * 2 ^ 52, packed with k in the exponent's field. The last digit of the exponent's field in `pattern`, and the fraction
+// there, choose an estimate.
 #[derive(Drop)]
 struct Parts {
     m: u64,
     k: u64,
+    pattern: u64,
 }
 
 // The pattern of a root, with the digits told.
@@ -24,7 +26,7 @@ pub struct CountedPattern {
 }
 
 // Of m * 2 ^ g / 2 ^ 2148, with an m of 53 digits: but for 2 ^ 52, the even part of 2 ^ g is taken off, and half of its places are k.
-fn even_parts(m: u64, g: u64) -> Parts
+fn even_parts(m: u64, g: u64, pattern: u64) -> Parts
     requires bound { (2 ^ 52 ≤ m) × (m < 2 ^ 53) }
     requires le_g { (52 ≤ g) × (g < 3120) }
     ensures { (result.m ≡ m * 2 ^ (g % 2)) × (result.k ≡ (g - 52) / 2) }
@@ -32,35 +34,26 @@ fn even_parts(m: u64, g: u64) -> Parts
     Parts {
         m: m << (g % 2),
         k: (g - 52) / 2,
+        pattern,
     }
 }
 
-// The parts of the normal number with the pattern b: its leading digit is put back.
-fn normal_parts(b: u64) -> Parts
-    requires { (0x10_0000_0000_0000 ≤ b) × (b < 0x7ff0_0000_0000_0000) }
-    ensures { Parted b result.m result.k }
-{
-    even_parts(b % EXPONENT + EXPONENT, b / EXPONENT + 1073)
-}
-
-// Those of the subnormal number with the pattern b: it is moved up until its leading digit stands where a normal number's does.
-fn subnormal_parts(b: u64) -> Parts
-    requires { (0 < b) × (b < 0x10_0000_0000_0000) }
-    ensures { Parted b result.m result.k }
-{
-    let s = (u64::leading_zeros(b) as u64) - 11;
-    even_parts(b << s, 1074 - s)
-}
-
-// Those of the number with the pattern b, which is finite and above zero.
+// The parts of the number with the pattern b, which is finite and above zero.
 fn parts_of(b: u64) -> Parts
     requires { (0 < b) × (b < 0x7ff0_0000_0000_0000) }
     ensures { Parted b result.m result.k }
 {
-    if b < EXPONENT {
-        subnormal_parts(b)
+    let e = b / EXPONENT;
+    let t = b % EXPONENT;
+    if e == 0 {
+        // A subnormal number has no leading digit put before t: t is moved up until its own stands there. In the pattern that digit is one more in the
+        // exponent's field, which is then even or odd as a normal number's is.
+        let s = (u64::leading_zeros(t) as u64) - 11;
+        let m = t << s;
+        let g = 1074 - s;
+        even_parts(m, g, g * EXPONENT + m)
     } else {
-        normal_parts(b)
+        even_parts(t + EXPONENT, e + 1073, b)
     }
 }
 
@@ -78,21 +71,20 @@ pub fn counted(b: u64) -> CountedPattern
     }
 }
 
-// The pattern of the root of the number with the pattern b, by a division; 0 where b is not that of a normal number above zero, or the estimate is no
-// good.
+// The pattern of the root of the number with the pattern b, by a division; 0 where b is not finite and above zero, or the estimate is no good.
 pub fn divided(b: u64) -> u64
     ensures result_value { (result ≡ 0 → ⊥) → of_bits binary64 result ≡ root_of (of_bits binary64 b) }
     ensures upper_bound { result < 0x7ff0_0000_0000_0000 }
 {
-    if b < EXPONENT {
+    if b == 0 {
         return 0;
     }
     if b >= INFINITY {
         return 0;
     }
-    let p = normal_parts(b);
+    let p = parts_of(b);
     let k = p.k;
-    let q = division::nearest_root(p.m, b);
+    let q = division::nearest_root(p.m, p.pattern);
     if q == 0 {
         return 0;
     }

@@ -13,18 +13,18 @@ use Rattle.whole_root.specs.Division.{Begun}
 pub record Cut (s d p u : ℕ) : Type 0 where
   pub whole : d * 2 ^ 22 ≡ p * s + u
   pub rest : u < s
-  pub digit : p ≤ 8 * 2 ^ 22
-  pub square : p * p ≤ 8 * 2 ^ 22 * (8 * 2 ^ 22)
+  pub digit : p ≤ 12 * 2 ^ 22
+  pub square : p * p ≤ 12 * 2 ^ 22 * (12 * 2 ^ 22)
 
 pub cut : (s d : ℕ) → Begun s d → Cut s d (d * 2 ^ 22 / s) (d * 2 ^ 22 % s)
 cut s d b = go (d * 2 ^ 22 / s) (d * 2 ^ 22 % s) (sym (div-add-mod' (d * 2 ^ 22) s)) (mod-lt (d * 2 ^ 22) (omega arith))
   where
-    too_long : (p u : ℕ) → suc (8 * 2 ^ 22) * s ≤ p * s → d * 2 ^ 22 ≡ p * s + u → ⊥
+    too_long : (p u : ℕ) → suc (12 * 2 ^ 22) * s ≤ p * s → d * 2 ^ 22 ≡ p * s + u → ⊥
     too_long p u g e = lt_irrefl 0 (omega arith)
 
     go : (p u : ℕ) → d * 2 ^ 22 ≡ p * s + u → u < s → Cut s d p u
     go p u e k =
-        let l : p ≤ 8 * 2 ^ 22 = le_of_suc-le-suc (lt_of_not-le (λ (g : suc (8 * 2 ^ 22) ≤ p). too_long p u (mul-le-mul_right s g) e)) in
+        let l : p ≤ 12 * 2 ^ 22 = le_of_suc-le-suc (lt_of_not-le (λ (g : suc (12 * 2 ^ 22) ≤ p). too_long p u (mul-le-mul_right s g) e)) in
         record { whole = e; rest = k; digit = l; square = mul-le-mul l l }
 
 squared : (s d p u : ℕ) → d * 2 ^ 22 ≡ p * s + u → (s * s + d) * 2 ^ 46 + p * p ≡ (s * 2 ^ 23 + p) * (s * 2 ^ 23 + p) + u * 2 ^ 24

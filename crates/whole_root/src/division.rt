@@ -28,7 +28,7 @@ pub fn nearest_root(m: u64, pattern: u64) -> u64
         return 0;
     }
     let d = x - s * s;
-    if 8 * s < d {
+    if 12 * s < d {
         return 0;
     }
     last_turn(s, d)

@@ -7,7 +7,7 @@ root-of-bits-requires : tie.Need-root-of-bits-requires
 root-of-bits-requires c κs = search rules
 
 returns : tie.Need-returns
-returns c = c.root-of-bits.ensures.0
+returns c = cc c.root-of-bits.ensures
 
 pub finder-root-spec : {M : Type 1} → statement M
 finder-root-spec = tie.close (tie.spec root-of-bits-requires returns)

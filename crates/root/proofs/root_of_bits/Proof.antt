@@ -14,8 +14,7 @@ divided-requires c κs = search rules
 returns : tie.Need-returns
 returns c =
     let d = c.before.divided in
-    let e = d.ensures.0 c.if1.true in
-    (sym (same_pattern d.result (omega (arith, d.ensures.1))) ∙ ap (to_bits binary64) e, e)
+    sym (same_pattern d.result (omega (arith, d.ensures.1))) ∙ ap (to_bits binary64) (d.ensures.0 c.if1.true)
 
 float-of-requires : tie.Need-float-of-requires
 float-of-requires c κs = search rules
@@ -28,8 +27,7 @@ bits-of-requires c κs = search rules
 
 returns-2 : tie.Need-returns-2
 returns-2 c =
-    let e = c.before.root_told.ensures.0 ∙ ap root_of c.before.before.float_of.ensures in
-    (c.bits_of.ensures.0 ∙ ap (to_bits binary64) e, c.bits_of.ensures.1 ∙ e)
+    c.bits_of.ensures ∙ ap (to_bits binary64) (c.before.root_told.ensures.0 ∙ ap root_of c.before.before.float_of.ensures)
 
 pub root-of-bits-spec : {M : Type 1} → statement M
 root-of-bits-spec =

@@ -1,34 +1,29 @@
 -- Each product is bounded by those of its factors' bounds.
 use Prim.Native.Nat.{ℕ, ◌-◌, ◌*◌, ◌/◌, ◌%◌, ◌^◌, ◌≤◌}
-use native.Mathlib.Nat.{mul-le-mul, mul-le-mul_right}
+use native.Mathlib.Nat.{mul-le-mul, mul-le-mul_left}
 use native.Mathlib.Omega.{arith}
 use borrow.Author.Rules.{rules}
 use Rattle.root_estimate.specs.Curves.{Curved}
 use Rattle.root_estimate.proofs.estimate.Statement.{statement}
 use Rattle.root_estimate.proofs.estimate.Tie as tie
 
-record Bounds (b c d : ℕ) : Type 0 where
+record Bounds (a b c e d : ℕ) : Type 0 where
   square : d * d ≤ (2 ^ 32 - 1) * (2 ^ 32 - 1)
-  rise : b * d ≤ 2 ^ 22 * 2 ^ 32
-  bend : c * (d * d / 2 ^ 32) ≤ b * d
+  slope : b * d ≤ 2 ^ 24 * 2 ^ 32
+  twist : e * d ≤ e * 2 ^ 32
+  bend : (c - e * d / 2 ^ 32) * (d * d / 2 ^ 32) ≤ 2 ^ 17 * 2 ^ 32
 
-bounds : (a b c d : ℕ) → Curved a b c → d ≤ 2 ^ 32 - 1 → Bounds b c d
-bounds a b c d k l =
+bounds : (a b c e d : ℕ) → Curved a b c e → d ≤ 2 ^ 32 - 1 → Bounds a b c e d
+bounds a b c e d k l =
+    let square : d * d ≤ (2 ^ 32 - 1) * (2 ^ 32 - 1) = mul-le-mul l l in
     let whole : d ≤ 2 ^ 32 = omega arith in
-    let steep : b ≤ 2 ^ 22 = omega arith in
-    let part : d * d ≤ 2 ^ 32 * d = mul-le-mul_right d whole in
-    let less : d * d / 2 ^ 32 ≤ d = omega arith in
-    record { square = mul-le-mul l l; rise = mul-le-mul steep whole; bend = mul-le-mul k.bend less }
+    let steep : b ≤ 2 ^ 24 = omega arith in
+    let bent : c - e * d / 2 ^ 32 ≤ 2 ^ 17 = omega arith in
+    let part : d * d / 2 ^ 32 ≤ 2 ^ 32 = omega arith in
+    record { square = square; slope = mul-le-mul steep whole; twist = mul-le-mul_left e whole; bend = mul-le-mul bent part }
 
-module _ (c : tie.After-curve-at) where
-  curved : let k = c.curve-at.result in Curved k.0 k.1 k.2
-  curved = c.curve-at.ensures
-
-  at : let k = c.curve-at.result in Bounds k.1 k.2 (c.before.args.pattern / 2 ^ 13 % 2 ^ 32)
-  at = bounds _ _ _ _ curved (omega arith)
-
-add-curve-at : tie.Need-overflow-add-curve-at
-add-curve-at c = search rules
+at : (c : tie.After-curve-at) → let k = c.curve-at.result in Bounds k.0 k.1 k.2 k.3 (c.before.args.pattern / 2 ^ 15 % 2 ^ 32)
+at c = let k = c.curve-at.result in bounds k.0 k.1 k.2 k.3 (c.before.args.pattern / 2 ^ 15 % 2 ^ 32) c.curve-at.ensures (omega arith)
 
 curve-at-requires : tie.Need-curve-at-requires
 curve-at-requires c κs = search rules
@@ -36,30 +31,37 @@ curve-at-requires c κs = search rules
 mul-dd : tie.Need-overflow-mul-dd
 mul-dd c = omega (arith, (at c).square)
 
+mul-bent : tie.Need-overflow-mul-bent
+mul-bent c = omega (arith, (at c.before).twist, c.before.curve-at.ensures)
+
+sub-bent : tie.Need-overflow-sub-bent
+sub-bent c = omega (arith, (at c.before.before).twist, c.before.before.curve-at.ensures)
+
+mul-bent-2 : tie.Need-overflow-mul-bent-2
+mul-bent-2 c = omega (arith, (at c.before.before).bend)
+
 mul-result : tie.Need-overflow-mul-result
-mul-result c = omega (arith, (at c.before).rise)
+mul-result c = omega (arith, (at c.before.before.before).slope)
 
 add-result : tie.Need-overflow-add-result
-add-result c = omega (arith, (at c.before.before).rise, curved c.before.before)
-
-mul-result-2 : tie.Need-overflow-mul-result-2
-mul-result-2 c = omega (arith, at c.before.before.before)
+add-result c = omega (arith, (at c.before.before.before.before).slope, c.before.before.before.before.curve-at.ensures)
 
 sub-result : tie.Need-overflow-sub-result
-sub-result c = omega (arith, (at c.before.before.before).bend)
+sub-result c = omega (arith, (at c.before.before.before.before).bend, c.before.before.before.before.curve-at.ensures)
 
 returns : tie.Need-returns
-returns c = omega (arith, at c.before.before.before, curved c.before.before.before)
+returns c = omega (arith, (at c.before.before.before.before).slope, (at c.before.before.before.before).bend, c.before.before.before.before.curve-at.ensures)
 
 pub estimate-spec : {M : Type 1} → statement M
 estimate-spec =
     tie.close
     (tie.spec
-    add-curve-at
     curve-at-requires
     mul-dd
+    mul-bent
+    sub-bent
+    mul-bent-2
     mul-result
     add-result
-    mul-result-2
     sub-result
     returns)

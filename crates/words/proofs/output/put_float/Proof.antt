@@ -15,7 +15,7 @@ same_length c = search rules
 
 returns : tie.Need-returns
 unfolding float_bytes
-returns c = simp (c.before.before.put_word.ensures, c.before.before.before.bits_of.ensures.0)
+returns c = simp (c.before.before.put_word.ensures, c.before.before.before.bits_of.ensures)
 
 pub put-float-spec : {M : Type 1} → statement M
 put-float-spec = tie.close (tie.spec bits-of-requires put-word-requires same_length returns)
