@@ -1,5 +1,7 @@
 // Document 01's angle functions, in place of Rust's, and the helpers on f64 that they and the finder use.
 
+#![tactic(auto)]
+
 pub mod circular;
 pub mod float;
 pub mod inverse;

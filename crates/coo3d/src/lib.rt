@@ -1,5 +1,7 @@
 // Vectors and points on the sphere: the parts of the source's coo3d.rs that the finder rests on.
 
+#![tactic(auto)]
+
 pub mod lonlat;
 pub mod point;
 pub mod quarter;

@@ -1,5 +1,7 @@
 // What a host program calls: every exported function, and nothing else. include/finder.h declares them for C and C++.
 
+#![tactic(auto)]
+
 mod callers;
 
 ghost use Rattle.std.specs.Prelude.{◌≡◌};

@@ -1,5 +1,7 @@
 // Document 02, ask 1: reads how many commands, one digit from 1 to 5, and prints every pattern of one up to as many, or 11.
 
+#![tactic(auto)]
+
 use command_patterns::listing;
 use libc::{STDERR_FILENO, STDIN_FILENO, STDOUT_FILENO};
 

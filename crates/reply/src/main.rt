@@ -1,5 +1,7 @@
 // Copies the replies to a job file from standard input to standard output, or prints the number and the place of its refusal.
 
+#![tactic(auto)]
+
 use jobs::file;
 use libc::{STDERR_FILENO, STDIN_FILENO, STDOUT_FILENO};
 

@@ -1,5 +1,7 @@
 // The square root of an f64, IEEE 754's, worked out from bits in whole numbers.
 
+#![tactic(auto)]
+
 mod normal;
 pub mod patterns;
 

@@ -1,5 +1,7 @@
 // Thirty digits of a root, by one of 64 curves of third degree.
 
+#![tactic(auto)]
+
 ghost use Rattle.std.specs.Prelude.{◌-◌, ◌^◌, ◌≤◌, ◌<◌};
 ghost use Rattle.root_estimate.specs.Curves.{Curved};
 

@@ -2,6 +2,8 @@
 //
 // What comes before a walk is a plan, which no allowance enters; a plan run with an allowance is a slot.
 
+#![tactic(auto)]
+
 pub mod arc;
 pub mod cone;
 mod equator;

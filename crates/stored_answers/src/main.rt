@@ -1,6 +1,8 @@
 // Replays job files with the answers that are stored for them, and says how many differ. host/ makes the input, from the reference and the
 // rules of document 01; its first 512 bytes are text that says so.
 
+#![tactic(auto)]
+
 ghost use Rattle.std.specs.Prelude.{◌≤◌, ◌<◌};
 
 use jobs::file;

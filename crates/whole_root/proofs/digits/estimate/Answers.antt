@@ -4,11 +4,9 @@ use mathlib.Core.Path.{◌≡◌}
 use Prim.Native.Nat.{ℕ, zero, suc, ◌+◌, ◌-◌, ◌*◌, ◌/◌, ◌≤◌, ◌<◌}
 use native.Mathlib.Nat.{mul-le-mul_right}
 use native.Mathlib.Omega.{arith}
-use borrow.Author.Rules.{rules}
 use Rattle.whole_root.specs.Digits.{Estimate}
 use Rattle.whole_root.proofs.Squares.{twice_product}
-use Rattle.whole_root.proofs.digits.estimate.Statement.{statement}
-use Rattle.whole_root.proofs.digits.estimate.Tie as tie
+use Rattle.whole_root.proofs.digits.estimate.Goals as goal
 
 -- the quotient of x by 160 is 25 + i, and that by 224 is 36 + i
 lower-chord : (x i : ℕ) → x < 8192 → 160 * (25 + i) ≤ x → x < 160 * (26 + i) → Estimate x (38 + (25 + i))
@@ -24,23 +22,14 @@ upper-chord x (suc i) v u l h =
     let square : 2 * (i * 18) ≤ i * i + 18 * 18 = twice_product i 18 in
     record { low = omega arith; high = omega arith; small = omega arith }
 
-add-result : tie.Need-overflow-add-result
-add-result c = search rules
-
-add-result-2 : tie.Need-overflow-add-result-2
-add-result-2 c = search rules
-
-returns : tie.Need-returns
-returns c =
-    let x = c.before.args.x in
+pub returns-then-x-lt8192 : goal.returns-then-x-lt8192
+returns-then-x-lt8192 c =
+    let x = c.args.x in
     let e : 25 + (x / 160 - 25) ≡ x / 160 = omega arith in
     rw e at (lower-chord x (x / 160 - 25) (omega arith) (omega arith) (omega arith))
 
-returns-2 : tie.Need-returns-2
-returns-2 c =
-    let x = c.before.args.x in
+pub returns-else-x-lt8192 : goal.returns-else-x-lt8192
+returns-else-x-lt8192 c =
+    let x = c.args.x in
     let e : 36 + (x / 224 - 36) ≡ x / 224 = omega arith in
     rw e at (upper-chord x (x / 224 - 36) (omega arith) (omega arith) (omega arith) (omega arith))
-
-pub estimate-spec : {M : Type 1} → statement M
-estimate-spec = tie.close (tie.spec add-result add-result-2 returns returns-2)
