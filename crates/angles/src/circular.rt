@@ -5,7 +5,7 @@ ghost use Rattle.angles.specs.Circular.{sine_series, cosine_series, within_quart
 
 use super::{HALF_PI, QUARTER_PI, float};
 
-#[derive(Drop)]
+#[derive(Clone, Copy)]
 pub struct SinCos {
     pub sin: f64,
     pub cos: f64,

@@ -9,7 +9,7 @@ use coo3d::point::Coo3D;
 use two_arcs::edge::Edge;
 use words::input;
 
-#[derive(Drop)]
+#[derive(Clone, Copy)]
 pub struct Ends {
     pub lon1: f64,
     pub lat1: f64,

@@ -15,14 +15,14 @@ use plans::ending::{CapArc, Ending};
 use plans::plan::Plan;
 
 // The height and the longitude of the cone's centre.
-#[derive(Drop)]
+#[derive(Clone, Copy)]
 struct Center {
     z: f64,
     lon: f64,
 }
 
 // The piece moved to the first quarter of the north cap: whether it was in the south, its slope, and the heights of the middle and the ends.
-#[derive(Drop)]
+#[derive(Clone, Copy)]
 struct QuarterPiece {
     south: bool,
     slope: Slope,

@@ -8,7 +8,7 @@ ghost use Rattle.command_patterns.specs.Held.{codes_of, held, pattern_or_none, r
 pub const COUNT: u64 = 9330;
 
 // Its codes are those from `first` on.
-#[derive(Drop)]
+#[derive(Clone, Copy)]
 pub struct Pattern {
     pub codes: [u8; 5],
     pub first: usize,

@@ -7,7 +7,7 @@ use super::point::Coo3D;
 use super::vect3::Vect3;
 use angles::{circular, inverse};
 
-#[derive(Drop)]
+#[derive(Clone, Copy)]
 pub struct LonLat {
     pub lon: f64,
     pub lat: f64,

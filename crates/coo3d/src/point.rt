@@ -6,7 +6,7 @@ ghost use Rattle.coo3d.specs.Points.{from_vec3, from_sph_coo, vect_of};
 use super::lonlat;
 use super::vect3::Vect3;
 
-#[derive(Drop)]
+#[derive(Clone, Copy)]
 pub struct Coo3D {
     pub x: f64,
     pub y: f64,

@@ -5,7 +5,7 @@ ghost use Rattle.coo3d.specs.Vectors.{dot_of, cross_of, squared_norm_of, norm_of
 
 use angles::float;
 
-#[derive(Drop)]
+#[derive(Clone, Copy)]
 pub struct Vect3 {
     pub x: f64,
     pub y: f64,

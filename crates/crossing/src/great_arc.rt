@@ -7,7 +7,7 @@ use coo3d::vect3;
 use coo3d::vect3::Vect3;
 
 // The ends, their scalar product, and the norm and the direction of their cross product.
-#[derive(Drop)]
+#[derive(Clone, Copy)]
 pub struct GreatArc {
     pub p1: Vect3,
     pub p2: Vect3,

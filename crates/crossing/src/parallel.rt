@@ -13,7 +13,7 @@ const SHORT_ARC: f64 = (1.0 / 3600.0) * (180.0 / PI);
 const NEAR_MERIDIAN: f64 = 1.0e-14;
 
 // The three ends of intersect_parallel: a vector, the height not strictly between the ends, neither root passes.
-#[derive(Drop)]
+#[derive(Clone, Copy)]
 pub enum Crossing {
     At(Vect3),
     NotBetween,
@@ -21,7 +21,7 @@ pub enum Crossing {
 }
 
 // How an arc is crossed, whatever the height.
-#[derive(Drop)]
+#[derive(Clone, Copy)]
 pub enum Rule {
     NearMeridian,
     ShortArc,

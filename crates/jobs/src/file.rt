@@ -13,7 +13,7 @@ use table::width;
 
 const LONGEST: usize = 16384;
 
-#[derive(Drop)]
+#[derive(Clone, Copy)]
 pub enum Checked {
     Accepted(usize),
     Refused(u8, usize),
@@ -76,7 +76,7 @@ fn run(job: &[u8], reply: &mut [u8])
 }
 
 // What a run of a job file answers.
-#[derive(Drop)]
+#[derive(Clone, Copy)]
 pub struct Outcome {
     pub number: u8,
     pub place: usize,

@@ -6,7 +6,7 @@ ghost use Rattle.jobs.specs.Passes.{item_at};
 use table::width;
 
 // A command, with the place past its operands; the end; or a refusal, with its place.
-#[derive(Drop)]
+#[derive(Clone, Copy)]
 pub enum Item {
     Command(u8, usize),
     End,

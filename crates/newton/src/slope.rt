@@ -9,14 +9,14 @@ use angles::{QUARTER_PI, inverse};
 pub const ONE_OVER_TRANSITION_Z: f64 = 1.5;
 
 // z0 is the sine of the centre's latitude, w0 is 1 - z0², r the cosine of the angular radius.
-#[derive(Drop)]
+#[derive(Clone, Copy)]
 pub struct Cone {
     pub z0: f64,
     pub w0: f64,
     pub r: f64,
 }
 
-#[derive(Drop)]
+#[derive(Clone, Copy)]
 pub enum Slope {
     Equatorial {
         cone: Cone,
@@ -31,7 +31,7 @@ pub enum Slope {
 }
 
 // What slope and ratio of either region share, in the source's names; sqrt is its sqrt_d2_minus_n2.
-#[derive(Drop)]
+#[derive(Clone, Copy)]
 struct Terms {
     w2: f64,
     q: f64,

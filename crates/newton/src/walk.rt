@@ -11,7 +11,7 @@ const FIFTIETH: f64 = 0.02;
 const LEAST_LIMIT: f64 = 1.0e-15;
 
 // What a walk that begins is given.
-#[derive(Drop)]
+#[derive(Clone, Copy)]
 pub struct Start {
     pub slope: Slope,
     pub limit: f64,
@@ -19,7 +19,7 @@ pub struct Start {
 }
 
 // Where a walk has come to: the height, the size of the last step, and how many steps it took.
-#[derive(Drop)]
+#[derive(Clone, Copy)]
 pub struct Walk {
     pub z: f64,
     pub size: f64,

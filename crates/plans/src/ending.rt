@@ -13,7 +13,7 @@ use crossing::parallel;
 use newton::region;
 
 // A piece of an arc in a cap: its ends, and their heights once it is moved to the first quarter and, where it is in the south, negated.
-#[derive(Drop)]
+#[derive(Clone, Copy)]
 pub struct CapArc {
     pub p1: Vect3,
     pub p2: Vect3,
@@ -22,7 +22,7 @@ pub struct CapArc {
     pub z2: f64,
 }
 
-#[derive(Drop)]
+#[derive(Clone, Copy)]
 pub enum Ending {
     EqrArc(GreatArc),
     PcArc(CapArc),

@@ -7,7 +7,7 @@ use super::ending::Ending;
 use answers::answer::{Answer, CapSlots, Slot};
 use newton::walk::Start;
 
-#[derive(Drop)]
+#[derive(Clone, Copy)]
 pub enum Plan {
     NoPiece,
     NoWalk,
@@ -15,7 +15,7 @@ pub enum Plan {
 }
 
 // The plans of a cap's two slots.
-#[derive(Drop)]
+#[derive(Clone, Copy)]
 pub struct CapPlan {
     pub first: Plan,
     pub second: Plan,

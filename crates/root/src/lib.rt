@@ -13,7 +13,7 @@ ghost use Rattle.root.specs.RootDigits.{digits_of};
 
 // A root, with how many binary digits of it are told from the leading 1: the fewest that, with zeros after them, are the exact root, 53 where none are,
 // and 0 for a zero, negative, infinite or NaN argument.
-#[derive(Drop)]
+#[derive(Clone, Copy)]
 pub struct ToldRoot {
     pub root: f64,
     pub digits: u64,

@@ -11,7 +11,7 @@ use whole_root::{digits, division};
 
 // The root of a number is that of m * 2 ^ 52, packed with k in the exponent's field. The last digit of the exponent's field in `pattern`, and the fraction
 // there, choose an estimate.
-#[derive(Drop)]
+#[derive(Clone, Copy)]
 struct Parts {
     m: u64,
     k: u64,
@@ -19,7 +19,7 @@ struct Parts {
 }
 
 // The pattern of a root, with the digits told.
-#[derive(Drop)]
+#[derive(Clone, Copy)]
 pub struct CountedPattern {
     pub root: u64,
     pub digits: u64,

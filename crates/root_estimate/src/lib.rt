@@ -7,7 +7,7 @@ ghost use Rattle.root_estimate.specs.Curves.{Curved};
 
 // Of a curve a + b * d - c * d² + e * d³ the numbers a, b, c and e. With d from 0 to 1 across an interval it is near to the root of y * 2 ^ 58 for the
 // y of the interval.
-#[derive(Drop)]
+#[derive(Clone, Copy)]
 struct Curve(u64, u64, u64, u64);
 
 // The curve of an interval: from 0 to 31 those of a y from 2 to 4, from 32 to 63 those of one from 1 to 2.

@@ -13,7 +13,7 @@ use splits::split;
 use splits::split::{Piece, Regions, Split};
 
 // Unsplit is document 01's status 10.
-#[derive(Drop)]
+#[derive(Clone, Copy)]
 pub enum ArcAnswer {
     Slots(Slots),
     Unsplit,

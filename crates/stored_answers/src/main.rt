@@ -16,7 +16,7 @@ const MOST: usize = 100000;
 const MARK: u8 = 0xa5;
 
 // What came of a turn: whether there was a job file, and whether it was answered as stored.
-#[derive(Drop)]
+#[derive(Clone, Copy)]
 pub struct Turn {
     replayed: bool,
     agrees: bool,

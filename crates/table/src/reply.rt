@@ -9,7 +9,7 @@ use answers::answer::{Answer, Slot, Slots};
 use answers::{arc_bytes, cone_bytes, parallel_bytes};
 use words::output;
 
-#[derive(Drop)]
+#[derive(Clone, Copy)]
 pub enum Reply {
     Refused(u8),
     Accepted,
@@ -18,7 +18,7 @@ pub enum Reply {
     Crossing(Answer),
 }
 
-#[derive(Drop)]
+#[derive(Clone, Copy)]
 pub struct Turn {
     pub reply: Reply,
     pub state: State,

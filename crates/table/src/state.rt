@@ -4,7 +4,7 @@ ghost use Rattle.std.specs.Prelude.{◌≡◌};
 ghost use Rattle.table.specs.States.{unset, given_of, needs_settings, with_precision, with_allowance};
 
 // Whether each is set stands in `precise` and `allowed`. Flat, with padding at its end alone, since it is copied with every command (docs/DECISIONS.md).
-#[derive(Drop)]
+#[derive(Clone, Copy)]
 pub struct State {
     pub precision: f64,
     pub precise: bool,

@@ -6,7 +6,7 @@ ghost use Rattle.two_arcs.specs.TwoArcs.{cross_of_ends, passes_of};
 use coo3d::vect3;
 use coo3d::vect3::Vect3;
 
-#[derive(Drop)]
+#[derive(Clone, Copy)]
 pub struct Edge {
     pub p1: Vect3,
     pub p2: Vect3,

@@ -8,7 +8,7 @@ use coo3d::vect3;
 use coo3d::vect3::Vect3;
 
 // A vector; neither candidate passes; there is no candidate.
-#[derive(Drop)]
+#[derive(Clone, Copy)]
 pub enum Meeting {
     At(Vect3),
     Nowhere,

@@ -5,14 +5,14 @@ ghost use Rattle.whole_root.specs.Roots.{WholeRoot, IsNearest, Fewest};
 ghost use Rattle.whole_root.specs.Digits.{Estimate, Digits, Longer, remains_of};
 
 // A whole root and its remainder: root * root + rem is the number, and rem is at most 2 * root.
-#[derive(Drop)]
+#[derive(Clone, Copy)]
 pub struct RootRem {
     pub root: u64,
     pub rem: u64,
 }
 
 // A rounded root of 53 digits, and the digits told of it: the fewest that, with zeros after them, are the exact root, or 53 where none are.
-#[derive(Drop)]
+#[derive(Clone, Copy)]
 pub struct Counted {
     pub root: u64,
     pub digits: u64,
