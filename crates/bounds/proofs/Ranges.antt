@@ -43,7 +43,7 @@ horner_within {d} {lo} {hi} {u} {s} {a} {b} (k ∷ ks) w e t =
     let t2 = and_l (finite lo && finite hi) (finite l) t3 in
     let v = within e (and_l (finite lo) (finite hi) t2) (and_r (finite lo) (finite hi) t2) in
     let m = within (mul_ends v w) (and_r (finite lo && finite hi) (finite l) t3) (and_r (finite lo && finite hi && finite l) (finite h) t4) in
-    horner_within ks w
+    horner_within {lo = l ⊕ k} {hi = h ⊕ k} {s = s ⊗ u ⊕ k} ks w
     (add_ends m (itself k (and_r (finite lo && finite hi && finite l && finite h) (finite k) t5)))
     (and_r (finite lo && finite hi && finite l && finite h && finite k) (horner_covers d (l ⊕ k) (h ⊕ k) ks a b) t)
 
