@@ -1,5 +1,5 @@
 -- A buffer that is filled part by part from its start: what is written so far, then what is left, is the whole; past it the buffer is as it was.
-use lib.ListN.{length, take, drop, length-append, take-append-drop}
+use lib.ListN.{length, take, drop, length-append, take-append-drop, drop_of_length-le}
 use lib.Seq.{drop-drop, length-take-le}
 use borrow.Rule.Slice.PartMut.{put_mid}
 use Prim.Native.Nat.{ℕ, ◌+◌, ◌≤◌}
@@ -49,3 +49,8 @@ module _ {whole now old : List ℕ} {at : ℕ} (f : Filling whole now old [] at)
   filled =
       sym (ap (λ (w : List ℕ). w ++ drop at old) (f.so_far ∙ append-nil (take at now))
       ∙ ap (λ (w : List ℕ). take at now ++ w) (sym f.kept) ∙ take-append-drop at now)
+
+-- a buffer that the whole just fills
+pub whole_written : {whole now old : List ℕ} {at : ℕ} → Filling whole now old [] at → length old ≡ length whole → now ≡ whole
+whole_written {whole} {now} {old} {at} f e =
+    let h : length old ≤ at = omega (arith, written f) in filled f ∙ rw (drop_of_length-le old h, append-nil) refl

@@ -1,14 +1,14 @@
 -- Numbers in the digits 1 to 6 are in the order of the patterns: shorter ones first, equal lengths by code.
 use lib.Dec.{T, leb, leb→le, le→leb}
 use lib.ListN.{length}
-use Prim.Native.Nat.{ℕ, ◌+◌, ◌-◌, ◌*◌, ◌≤◌, ◌<◌}
+use Prim.Native.Nat.{ℕ, ◌+◌, ◌*◌, ◌≤◌, ◌<◌}
 use native.Mathlib.Decide.{dec_lt}
 use native.Mathlib.Omega.{arith}
 use mathlib.Core.Path.{◌≡◌, refl, sym, ap, subst}
 use mathlib.Core.Logic.{inl, inr}
 use mathlib.Core.Bool.{Bool, true, false, ◌&&◌}
 use mathlib.Core.List.{List, [], ◌∷◌}
-use Rattle.command_patterns.specs.Patterns.{is_code, all_codes, ByCode, ComesBefore, number_from, digits}
+use Rattle.command_patterns.specs.Patterns.{is_code, all_codes, ByCode, ComesBefore, number_from}
 
 pub and_parts : (a b : Bool) → T (a && b) → T a × T b
 and_parts true b t = (tt, t)

@@ -28,3 +28,8 @@ pub of_pattern : (p : List ℕ) → all_codes p ≡ true → length p ≤ 5 → 
 unfolding rank_or_count is_pattern rank
 of_pattern [] s l h = absurd (omega arith)
 of_pattern (c ∷ p) s l h = simp (s, le-leb 1 (length (c ∷ p)) (omega arith), le-leb (length (c ∷ p)) 5 l)
+
+-- the codes that are left decide, after those that came to a number
+pub record Left (p rest : List ℕ) (number : ℕ) : Type 0 where
+  pub same_codes : all_codes p ≡ all_codes rest
+  pub same_number : number_from 0 p ≡ number_from number rest

@@ -53,8 +53,8 @@ pub const ROOM: usize = 167940;
 // that there are.
 pub fn answer(front: [u8; 3], read: usize, out: &mut [u8; ROOM]) -> usize
     requires { read ≤ 3 }
-    ensures by_index { (input : List ℕ) → take 3 input ≡ take read front → result ≡ length (printed input) }
-    ensures by_index_2 { (input : List ℕ) → take 3 input ≡ take read front → out.new ≡ printed input ++ drop result out.old }
+    ensures length_printed { (input : List ℕ) → take 3 input ≡ take read front → result ≡ length (printed input) }
+    ensures bytes_printed { (input : List ℕ) → take 3 input ≡ take read front → out.new ≡ printed input ++ drop result out.old }
 {
     let n = input::number_in(&front[..read]);
     if n == 0 { refuse(out) } else { list(n, out) }
