@@ -3,18 +3,20 @@
 #![tactic(auto)]
 
 use command_patterns::listing;
-use libc::{STDERR_FILENO, STDIN_FILENO, STDOUT_FILENO};
+
+const STDIN: i32 = 0;
+
+const STDOUT: i32 = 1;
+
+const STDERR: i32 = 2;
 
 fn main() {
     let mut front = [0u8; 3];
     let mut output = [0u8; listing::ROOM];
-    let read = io::read_full(STDIN_FILENO, &mut front);
+    let read = io::read_full(STDIN, &mut front);
     let written = listing::answer(front, read, &mut output);
     // A program has no exit status, so that a write failed is said on standard error.
-    if !io::write_all(STDOUT_FILENO, &output[..written]) {
-        io::write_all(
-            STDERR_FILENO,
-            b"patterns: the output could not be written\n",
-        );
+    if !io::write_all(STDOUT, &output[..written]) {
+        io::write_all(STDERR, b"patterns: the output could not be written\n");
     }
 }

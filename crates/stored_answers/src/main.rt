@@ -6,8 +6,10 @@
 ghost use Rattle.std.specs.Prelude.{◌≤◌, ◌<◌};
 
 use jobs::file;
-use libc::{STDIN_FILENO, STDOUT_FILENO};
 use words::output;
+
+const STDIN: i32 = 0;
+const STDOUT: i32 = 1;
 
 // More than the input has; by it the loop ends.
 const MOST: usize = 100000;
@@ -44,7 +46,7 @@ fn read_front(out: &mut [u8], n: usize) -> bool {
     if out.len() < n {
         return false;
     }
-    io::read_full(STDIN_FILENO, &mut out[0..n]) == n
+    io::read_full(STDIN, &mut out[0..n]) == n
 }
 
 fn same_part(a: &[u8], b: &[u8], from: usize, to: usize) -> bool {
@@ -82,7 +84,7 @@ fn replay(head: &[u8; 20], job: &[u8], answer: &[u8], reply: &mut [u8], marks: &
 
 fn next(job: &mut [u8], answer: &mut [u8], reply: &mut [u8], marks: &[u8]) -> Turn {
     let mut head = [0u8; 20];
-    let n = io::read_full(STDIN_FILENO, &mut head);
+    let n = io::read_full(STDIN, &mut head);
     let whole = read_front(job, number_at(&head, 0)) & read_front(answer, number_at(&head, 4));
     let agrees = replay(&head, job, answer, reply, marks);
     Turn {
@@ -92,8 +94,8 @@ fn next(job: &mut [u8], answer: &mut [u8], reply: &mut [u8], marks: &[u8]) -> Tu
 }
 
 fn say(n: usize, what: &[u8]) {
-    io::print_decimal(STDOUT_FILENO, n as u64);
-    io::write_all(STDOUT_FILENO, what);
+    io::print_decimal(STDOUT, n as u64);
+    io::write_all(STDOUT, what);
 }
 
 fn report(replayed: usize, differ: usize) {
@@ -129,6 +131,6 @@ fn main() {
     let mut reply = io::large_buffer();
     let mut marks = io::large_buffer();
     output::fill(&mut marks, MARK);
-    io::read_full(STDIN_FILENO, &mut text);
+    io::read_full(STDIN, &mut text);
     replay_all(&mut job, &mut answer, &mut reply, &marks);
 }
