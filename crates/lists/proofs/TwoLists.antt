@@ -10,7 +10,7 @@ use mathlib.Core.Logic.{◌↔◌}
 use Rattle.newton.specs.declared.walk.Start.{Start}
 use Rattle.plans.specs.PlanAllowances.{AllEqualOrEnd}
 use Rattle.table.specs.States.{allowance_of}
-use Rattle.table.specs.Turns.{reply_of, walks_of}
+use Rattle.table.specs.Turns.{after, reply_of, walks_of}
 use Rattle.table.specs.CommandAllowances.{Like, CommandInTwo}
 use Rattle.table.specs.declared.state.State.{State}
 use Rattle.table.proofs.ReplyLengths.{length_reply}
@@ -78,7 +78,7 @@ along : {s t : State} {cs ds : List Command}
 along l none = nothing
 along {s} {t} l (one {code = code} {b = b} {d = d} o h) =
     let k = command_allowances s t code b d l o in
-    rw (last_after_lem s (command code b), last_after_lem t (command code d)) (first k (along k.like_after h))
+    rw (last_after_lem s (command code b), last_after_lem t (command code d)) (first k (along {s = after s code b} {t = after t code d} k.like_after h))
 
 pub allowances_of_two_lists : AllowancesOfTwoLists
 allowances_of_two_lists cs ds h =
