@@ -6,13 +6,13 @@ use mathlib.Core.List.{List, [], ◌∷◌}
 use Rattle.plans.specs.Plans.{slots_of, steps_at}
 use Rattle.plans.proofs.PlanAllowances.{ended_of_plans, steps_of_plans}
 use Rattle.table.specs.States.{unset, Allowance, allowance_of}
-use Rattle.table.specs.Turns.{plans_in, plans_of, walks_of, reply_of}
+use Rattle.table.specs.Turns.{plans_in, plans_of, walks_of, reply_of, after}
 use Rattle.table.specs.CommandAllowances.{Like, LikeOperands}
 use Rattle.table.specs.Steps.{step_byte}
 use Rattle.table.specs.declared.state.State.{State}
 use Rattle.table.proofs.CommandAllowances.{command_allowances}
 use Rattle.table.proofs.Steps.{step_bytes_lem}
-use Rattle.lists.specs.Commands.{Command, replies_from, begun_from, leaves}
+use Rattle.lists.specs.Commands.{Command, replies_from, begun_from, leaves, last_after}
 use Rattle.lists.specs.TwoLists.{command, LikeCommands, none, one}
 use Rattle.lists.proofs.Last.{last_after_lem}
 use Rattle.jobs.specs.Files.{commands_in, file_of, reply_file}
@@ -23,12 +23,12 @@ use Rattle.claims.proofs.Alike.{alike_commands}
 -- ---- the parts of a file
 replies_told_lem : (last : Allowance) (s : State) (cs : List Command) → replies_told (told_from last s cs) ≡ replies_from s cs
 replies_told_lem last s [] = refl
-replies_told_lem last s (c ∷ cs) = rw (replies_told_lem _ (leaves s c) cs)
+replies_told_lem last s (c ∷ cs) = rw (replies_told_lem (last_after last c) (leaves s c) cs)
 
 begun_told_lem : (last : Allowance) (s : State) (cs : List Command) → begun_told (told_from last s cs) ≡ begun_from last s cs
 unfolding walks_of
 begun_told_lem last s [] = refl
-begun_told_lem last s (c ∷ cs) = rw (begun_told_lem _ (leaves s c) cs)
+begun_told_lem last s (c ∷ cs) = rw (begun_told_lem (last_after last c) (leaves s c) cs)
 
 pub parts_of_file : PartsOfFile
 unfolding reply_file begun_in
@@ -79,7 +79,7 @@ along l none = no_pair
 along {s} {t} l (one {code = code} {b = b} {d = d} o h) =
     let k = command_allowances s t code b d l o in
     rw (last_after_lem s (command code b), last_after_lem t (command code d))
-    (pair (both s t code b d l o) (along k.like_after h))
+    (pair (both s t code b d l o) (along {s = after s code b} {t = after t code d} k.like_after h))
 
 -- ---- the claims
 of_each : {P : Told → Told → Type 0} {ts us : List Told} → ((t u : Told) → Both t u → P t u) → EachPair Both ts us → EachPair P ts us

@@ -69,10 +69,10 @@ of_plan n (Begins start ending) = of_ending ending (walk_of start n).z
 abbrev OfRow : Row → Type 0
 OfRow r = (n : ℕ) (g : Given) (b : List ℕ) → RepliedInTurn (reply_in n (r.work g b))
 
-of_split : (n : ℕ) (s : Split) (precision : Float) → RepliedInTurn (reply_in n (arc_work s precision))
+of_split : (n : ℕ) (s : Split) (p : Float) → RepliedInTurn (reply_in n (arc_work s p))
 unfolding RepliedInTurn arc_work reply_in slots_at cap_slots_at
-of_split n (Into r) precision = (of_plan n _, of_plan n _, of_plan n _, of_plan n _, of_plan n _)
-of_split n Failed precision = tt
+of_split n (Into r) p = (of_plan n _, of_plan n _, of_plan n _, of_plan n _, of_plan n _)
+of_split n Failed p = tt
 
 of_end : OfRow end
 unfolding RepliedInTurn reply_in

@@ -5,7 +5,9 @@
 use jobs::file;
 
 const STDIN: i32 = 0;
+
 const STDOUT: i32 = 1;
+
 const STDERR: i32 = 2;
 
 // The first n bytes of a buffer, where it has as many. A program has no exit status, so that a write failed is said on standard error.

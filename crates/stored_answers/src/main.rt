@@ -9,6 +9,7 @@ use jobs::file;
 use words::output;
 
 const STDIN: i32 = 0;
+
 const STDOUT: i32 = 1;
 
 // More than the input has; by it the loop ends.
