@@ -27,8 +27,8 @@ pub struct CountedPattern {
 
 // Of m * 2 ^ g / 2 ^ 2148, with an m of 53 digits: but for 2 ^ 52, the even part of 2 ^ g is taken off, and half of its places are k.
 fn even_parts(m: u64, g: u64, pattern: u64) -> Parts
-    requires bound { (2 ^ 52 ≤ m) × (m < 2 ^ 53) }
-    requires le_g { (52 ≤ g) × (g < 3120) }
+    requires significand { (2 ^ 52 ≤ m) × (m < 2 ^ 53) }
+    requires power { (52 ≤ g) × (g < 3120) }
     ensures { (result.m ≡ m * 2 ^ (g % 2)) × (result.k ≡ (g - 52) / 2) }
 {
     Parts {
@@ -73,8 +73,8 @@ pub fn counted(b: u64) -> CountedPattern
 
 // The pattern of the root of the number with the pattern b, by a division; 0 where b is not finite and above zero, or the estimate is no good.
 pub fn divided(b: u64) -> u64
-    ensures result_value { (result ≡ 0 → ⊥) → of_bits binary64 result ≡ root_of (of_bits binary64 b) }
-    ensures upper_bound { result < 0x7ff0_0000_0000_0000 }
+    ensures value { (result ≡ 0 → ⊥) → of_bits binary64 result ≡ root_of (of_bits binary64 b) }
+    ensures finite { result < 0x7ff0_0000_0000_0000 }
 {
     if b == 0 {
         return 0;

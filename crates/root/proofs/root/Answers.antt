@@ -16,9 +16,9 @@ pub float_to_bits-x : goal.float_to_bits-x
 float_to_bits-x c = no_nan _ c.if-x.false
 
 pub float_from_bits-result : goal.float_from_bits-result
-float_from_bits-result c = no_nan_pattern c.divided-r.result (omega (arith, c.divided-r.ensures.upper_bound))
+float_from_bits-result c = no_nan_pattern c.divided-r.result (omega (arith, c.divided-r.ensures.finite))
 
 pub returns-then-r-ne0 : goal.returns-then-r-ne0
 returns-then-r-ne0 c =
     let s = c.before.before.before in
-    c.divided-r.ensures.result_value c.if-r-ne0.true ∙ ap root_of (of_bits-to_bits binary64 s.args.x (subst T (sym s.well_formed.0.1) tt))
+    c.divided-r.ensures.value c.if-r-ne0.true ∙ ap root_of (of_bits-to_bits binary64 s.args.x (subst T (sym s.well_formed.0.1) tt))

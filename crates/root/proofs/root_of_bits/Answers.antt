@@ -8,4 +8,4 @@ use Rattle.root.proofs.root_of_bits.Goals as goal
 pub returns-then-r-ne0 : goal.returns-then-r-ne0
 returns-then-r-ne0 c =
     let d = c.divided-r in
-    sym (same_pattern d.result (omega (arith, d.ensures.upper_bound))) ∙ ap (to_bits binary64) (d.ensures.result_value c.if-r-ne0.true)
+    sym (same_pattern d.result (omega (arith, d.ensures.finite))) ∙ ap (to_bits binary64) (d.ensures.value c.if-r-ne0.true)

@@ -31,12 +31,12 @@ record Here (job reply : List ℕ) (at out code end : ℕ) : Type 0 where
   room : 2 + answer_width code ≤ length reply - out
   fitting : Fitting (before (command_at job at code) (parsed_at job end)) (length reply - out)
 
-here : (job reply : List ℕ) (at out code end : ℕ) {i : Item}
+here : (reply : List ℕ) (out : ℕ) {job : List ℕ} {at code end : ℕ} {i : Item}
     → i ≡ item_at job at
     → i ≡ item.Command code end
     → Fitting (parsed_at job at) (length reply - out)
     → Here job reply at out code end
-here job reply at out code end found told fitting =
+here reply out {job} {at} {code} {end} found told fitting =
     let g = good_item job at _ _ found told in
     let f = subst (λ (p : Parsed). Fitting p (length reply - out)) (at_item job at _ _ found told) fitting in
     record {
@@ -67,26 +67,26 @@ pub item_at-requires : goal.item_at-requires
 item_at-requires c = tt
 
 pub overflow_add-start : goal.overflow_add-start
-overflow_add-start c = let h = here c.args.job.now c.args.reply.now c.loop-code.at c.loop-code.out c.in-Command.code c.in-Command.end c.item_at.ensures c.in-Command.is c.loop-code.invariant.3 in omega (arith, h.wide, h.inside)
+overflow_add-start c = let h = here c.args.reply.now c.loop-code.out c.item_at.ensures c.in-Command.is c.loop-code.invariant.3 in omega (arith, h.wide, h.inside)
 
 pub reply_width-requires : goal.reply_width-requires
-reply_width-requires c = let h = here c.args.job.now c.args.reply.now c.loop-code.at c.loop-code.out c.in-Command.code c.in-Command.end c.item_at.ensures c.in-Command.is c.loop-code.invariant.3 in h.known
+reply_width-requires c = let h = here c.args.reply.now c.loop-code.out c.item_at.ensures c.in-Command.is c.loop-code.invariant.3 in h.known
 
 pub overflow_add-to : goal.overflow_add-to
-overflow_add-to c = let h = here c.args.job.now c.args.reply.now c.loop-code.at c.loop-code.out c.in-Command.code c.in-Command.end c.item_at.ensures c.in-Command.is c.loop-code.invariant.3 in omega (arith, h.room)
+overflow_add-to c = let h = here c.args.reply.now c.loop-code.out c.item_at.ensures c.in-Command.is c.loop-code.invariant.3 in omega (arith, h.room)
 
 pub slice_bounds-turn-count : goal.slice_bounds-turn-count
-slice_bounds-turn-count c = let h = here c.args.job.now c.args.reply.now c.loop-code.at c.loop-code.out c.in-Command.code c.in-Command.end c.item_at.ensures c.in-Command.is c.loop-code.invariant.3 in omega (arith, h.wide)
+slice_bounds-turn-count c = let h = here c.args.reply.now c.loop-code.out c.item_at.ensures c.in-Command.is c.loop-code.invariant.3 in omega (arith, h.wide)
 
 pub slice_bounds-turn-start : goal.slice_bounds-turn-start
-slice_bounds-turn-start c = let h = here c.args.job.now c.args.reply.now c.loop-code.at c.loop-code.out c.in-Command.code c.in-Command.end c.item_at.ensures c.in-Command.is c.loop-code.invariant.3 in omega (arith, h.wide)
+slice_bounds-turn-start c = let h = here c.args.reply.now c.loop-code.out c.item_at.ensures c.in-Command.is c.loop-code.invariant.3 in omega (arith, h.wide)
 
 pub slice_bounds-turn-end : goal.slice_bounds-turn-end
-slice_bounds-turn-end c = let h = here c.args.job.now c.args.reply.now c.loop-code.at c.loop-code.out c.in-Command.code c.in-Command.end c.item_at.ensures c.in-Command.is c.loop-code.invariant.3 in h.inside
+slice_bounds-turn-end c = let h = here c.args.reply.now c.loop-code.out c.item_at.ensures c.in-Command.is c.loop-code.invariant.3 in h.inside
 
 pub turn-t-requires : goal.turn-t-requires
 turn-t-requires c =
-    let h = here c.args.job.now c.args.reply.now c.loop-code.at c.loop-code.out c.in-Command.code c.in-Command.end c.item_at.ensures c.in-Command.is c.loop-code.invariant.3 in (h.known, simp (length-take, length-drop) (omega (arith, h.wide, h.inside)))
+    let h = here c.args.reply.now c.loop-code.out c.item_at.ensures c.in-Command.is c.loop-code.invariant.3 in (h.known, simp (length-take, length-drop) (omega (arith, h.wide, h.inside)))
 
 pub slice_bounds-put-count : goal.slice_bounds-put-count
 slice_bounds-put-count c = omega arith
@@ -95,11 +95,11 @@ pub slice_bounds-put-start : goal.slice_bounds-put-start
 slice_bounds-put-start c = omega arith
 
 pub slice_bounds-put-end : goal.slice_bounds-put-end
-slice_bounds-put-end c = let h = here c.args.job.now c.args.reply.now c.loop-code.at c.loop-code.out c.in-Command.code c.in-Command.end c.item_at.ensures c.in-Command.is c.loop-code.invariant.3 in omega (arith, h.room)
+slice_bounds-put-end c = let h = here c.args.reply.now c.loop-code.out c.item_at.ensures c.in-Command.is c.loop-code.invariant.3 in omega (arith, h.room)
 
 pub put-requires : goal.put-requires
 put-requires c =
-    let h = here c.args.job.now c.args.reply.now c.loop-code.at c.loop-code.out c.in-Command.code c.in-Command.end c.item_at.ensures c.in-Command.is c.loop-code.invariant.3 in
+    let h = here c.args.reply.now c.loop-code.out c.item_at.ensures c.in-Command.is c.loop-code.invariant.3 in
     let code = c.in-Command.code in
     let s = c.loop-code.state in
     let r = c.reply_width in (
@@ -108,12 +108,12 @@ put-requires c =
     )
 
 pub loop-code-smaller : goal.loop-code-smaller
-loop-code-smaller c = let h = here c.args.job.now c.args.reply.now c.loop-code.at c.loop-code.out c.in-Command.code c.in-Command.end c.item_at.ensures c.in-Command.is c.loop-code.invariant.3 in omega (arith, h.wide, h.inside)
+loop-code-smaller c = let h = here c.args.reply.now c.loop-code.out c.item_at.ensures c.in-Command.is c.loop-code.invariant.3 in omega (arith, h.wide, h.inside)
 
 pub loop-code-preserved : goal.loop-code-preserved
 unfolding reply_of after
 loop-code-preserved c =
-    let h = here c.args.job.now c.args.reply.now c.loop-code.at c.loop-code.out c.in-Command.code c.in-Command.end c.item_at.ensures c.in-Command.is c.loop-code.invariant.3 in
+    let h = here c.args.reply.now c.loop-code.out c.item_at.ensures c.in-Command.is c.loop-code.invariant.3 in
     let start = c in
     let job = start.args.job.now in
     let l = c.loop-code in

@@ -8,13 +8,13 @@ use Rattle.root.proofs.normal.divided.Goals as goal
 use Rattle.root.proofs.normal.divided.Goals.{After-parts_of-p, Else-q-eq0}
 
 pub returns-then-b-eq0 : goal.returns-then-b-eq0
-returns-then-b-eq0 c = record { result_value = λ n. absurd (n refl); upper_bound = omega arith }
+returns-then-b-eq0 c = record { value = λ n. absurd (n refl); finite = omega arith }
 
 pub returns-then-b-ge-INFINITY : goal.returns-then-b-ge-INFINITY
-returns-then-b-ge-INFINITY c = record { result_value = λ n. absurd (n refl); upper_bound = omega arith }
+returns-then-b-ge-INFINITY c = record { value = λ n. absurd (n refl); finite = omega arith }
 
 pub returns-then-q-eq0 : goal.returns-then-q-eq0
-returns-then-q-eq0 c = record { result_value = λ n. absurd (n refl); upper_bound = omega arith }
+returns-then-q-eq0 c = record { value = λ n. absurd (n refl); finite = omega arith }
 
 module _ (c : Else-q-eq0) where
   abbrev p : After-parts_of-p
@@ -30,4 +30,4 @@ pub overflow_add-result : goal.overflow_add-result
 overflow_add-result c = omega (arith, (root c).0, (p c).parts_of-p.ensures.high)
 
 pub returns : goal.returns
-returns c = record { result_value = (λ _. (root c).1); upper_bound = omega (arith, (root c).0, (p c).parts_of-p.ensures.high) }
+returns c = record { value = (λ _. (root c).1); finite = omega (arith, (root c).0, (p c).parts_of-p.ensures.high) }

@@ -32,7 +32,7 @@ pub overflow_add-g : goal.overflow_add-g
 overflow_add-g c = omega (arith, at c, shifted _ _ (at c))
 
 pub even_parts-requires : goal.even_parts-requires
-even_parts-requires c = let m = at c in record { bound = kept (shifted _ _ m) m.least m.most; le_g = omega arith }
+even_parts-requires c = let m = at c in record { significand = kept (shifted _ _ m) m.least m.most; power = omega arith }
 
 pub returns-then-e-eq0 : goal.returns-then-e-eq0
 returns-then-e-eq0 c =
