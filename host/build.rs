@@ -10,7 +10,7 @@ use std::process::Command;
 fn main() {
     let manifest = env::var("CARGO_MANIFEST_DIR").expect("cargo sets CARGO_MANIFEST_DIR");
     let repository = Path::new(&manifest).join("..");
-    link(&repository.join("target/staticlib"));
+    link(&repository.join("crates/finder/out"));
     // `%` on f64 is the C library's fmod.
     println!("cargo::rustc-link-lib=m");
     println!("cargo::rustc-env=FINDER_KIT=kit: {}", kit());
@@ -35,8 +35,8 @@ fn link(folder: &Path) {
     println!("cargo::rerun-if-changed={}", archive.display());
     if !archive.is_file() {
         println!(
-            "cargo::error=target/staticlib/libfinder.a is missing: \
-             make it with `rt staticlib finder`"
+            "cargo::error=crates/finder/out/libfinder.a is missing: \
+             make it with `rt lib` in crates/finder"
         );
     }
     println!("cargo::rustc-link-search=native={}", folder.display());

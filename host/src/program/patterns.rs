@@ -81,7 +81,7 @@ fn place() -> Result<PathBuf, Stop> {
     let own = env::current_exe().unwrap_or_default();
     let folder = own.parent().filter(|folder| folder.ends_with(PLACE));
     match folder.and_then(|folder| folder.ancestors().nth(3)) {
-        Some(root) => Ok(root.join("target/bin/patterns")),
+        Some(root) => Ok(root.join("crates/patterns/out/patterns")),
         None => {
             let message = format!("this program is not in its place, {PLACE} of the repository; `./finder` puts it there");
             Err(Stop::failed(message))

@@ -29,7 +29,7 @@ fn bad<'a>() -> impl Iterator<Item = &'a [u8]> {
 
 /// What the proved program prints with these parts on its standard input.
 fn patterns(parts: &[&[u8]]) -> Vec<u8> {
-    let program = repository().join("target/bin/patterns");
+    let program = repository().join("crates/patterns/out/patterns");
     feed(&mut Command::new(program), parts).done()
 }
 
@@ -102,7 +102,7 @@ fn inputs_in_parts() {
     }
 }
 
-/// What `rt check` runs it on.
+/// What `rt ci` runs it on.
 #[test]
 fn the_stored_run() {
     let stored = |name: &str| fs::read(repository().join("crates/patterns").join(name));
@@ -198,7 +198,7 @@ fn laid_out() -> Folder {
     let folder = Folder::new();
     let program = command().get_program().to_string_lossy().into_owned();
     folder.change(&format!(
-        "mkdir -p host/target/release target/bin; cp '{program}' host/target/release"
+        "mkdir -p host/target/release crates/patterns/out; cp '{program}' host/target/release"
     ));
     folder
 }
@@ -206,7 +206,7 @@ fn laid_out() -> Folder {
 /// A line for the shell that puts a script in the proved program's place.
 fn stand_in(script: &str) -> String {
     format!(
-        "printf '%s\\n' '#!/bin/sh' '{script}' > target/bin/patterns; chmod +x target/bin/patterns"
+        "printf '%s\\n' '#!/bin/sh' '{script}' > crates/patterns/out/patterns; chmod +x crates/patterns/out/patterns"
     )
 }
 
@@ -248,10 +248,10 @@ fn out_of_its_place() {
 fn the_proved_program_fails() {
     let folder = laid_out();
     let root = folder.path("").canonicalize().expect("it is there");
-    let proved = root.join("target/bin/patterns").display().to_string();
+    let proved = root.join("crates/patterns/out/patterns").display().to_string();
     for (change, why) in [
         ("true", "there is no such file or folder"),
-        ("touch target/bin/patterns", "permission is denied"),
+        ("touch crates/patterns/out/patterns", "permission is denied"),
         (&stand_in("exit 3"), "has failed (exit status: 3)"),
         (
             &stand_in("echo 11; kill -9 $$"),

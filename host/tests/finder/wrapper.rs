@@ -6,7 +6,7 @@ use std::process::Command;
 
 /// `bin` has the tools that build, of which `rt` reads its standard input, and `basic` those that every machine has. The program shows where it is run, and its arguments.
 const SETUP: &str = r#"
-mkdir -p bin basic logs other crates host/build host/src/program
+mkdir -p bin basic logs other crates/finder crates/patterns host/build host/src/program
 cp "$0/finder" "$0/crates.txt" .
 cp -r "$0/host/src/program/help" "$0/host/src/program/help.txt" host/src/program
 cp "$0/host/Cargo.toml" host
@@ -17,17 +17,19 @@ tool cc < /dev/null
 tool rt << 'END'
 make() { mkdir -p "${1%/*}"; echo > "$1"; }
 library() {
-    while IFS=: read -r crate _ && [[ $crate != finder ]]; do
-        echo "rt: $crate checked"
-        echo "rt: $crate proved, 3 must-fail edits" >&2
-    done < crates.txt
-    make target/staticlib/libfinder.a
-    echo "rt: target/staticlib/libfinder.a has 2 functions"
+    while IFS=: read -r crate _; do
+        crate=${crate% staticlib}
+        echo "library $crate: modules loaded=1 checked=0"
+        echo "crate $crate: modules loaded=1 checked=0"
+        echo "logic=proved functions=2" >&2
+        [[ $crate != finder ]] || break
+    done < ../../crates.txt
+    make out/libfinder.a
 }
-case $* in
-    version) echo "a kit" ;;
-    "staticlib finder") cat; library ;;
-    "check patterns") cat; [[ -e target/stamp/patterns ]] || { make target/stamp/patterns; make target/bin/patterns; } ;;
+case "$* in ${PWD##*/}" in
+    "version in "*) echo "a kit" ;;
+    "lib in finder") cat; library ;;
+    "run in patterns") cat; make out/patterns ;;
     *) exit 1 ;;
 esac
 END
@@ -77,7 +79,7 @@ fn untimed(ran: &Ran) -> Vec<&str> {
 fn says_how_far_it_is() {
     let folder = copy();
     let crates = fs::read_to_string(folder.path("crates.txt")).expect("it is there");
-    let (before, _) = crates.split_once("\nfinder:").expect("it is one of them");
+    let (before, _) = crates.split_once("\nfinder staticlib:").expect("it is one of them");
     let names = before.lines().filter_map(|line| line.split(':').next());
     let names: Vec<&str> = names.chain(["finder"]).collect();
     let mut expected = PROVING.to_string();
@@ -90,7 +92,7 @@ fn says_how_far_it_is() {
     assert_eq!(run(&folder, again).text(), "<other><list><a  b><>");
     folder.change("touch -d '1 hour' host/src/new");
     assert_eq!(untimed(&run(&folder, "./finder list")), LINKING);
-    folder.change("touch -d '1 hour ago' host/src/new; touch -d '1 hour' crates/new");
+    folder.change("touch -d '1 hour ago' host/src/new; touch -d '1 hour' crates/finder/new");
     assert_eq!(untimed(&run(&folder, "./finder list"))[0], PROVING);
 }
 
@@ -101,7 +103,7 @@ fn proves_patterns_when_asked_for() {
     const ASK: &str = "cd other; { ../finder patterns 2; cat; } <<< left";
     let folder = copy();
     run(&folder, "./finder list");
-    assert!(!folder.path("target/bin").exists());
+    assert!(!folder.path("crates/patterns/out").exists());
     folder.change("mv bin/cargo bin/cc other");
     let ask = |said: &[&str]| {
         let ran = run(&folder, ASK);
@@ -113,12 +115,12 @@ fn proves_patterns_when_asked_for() {
     };
     ask(&PROVING_PATTERNS);
     ask(&[]);
-    folder.change("rm target/bin/patterns");
+    folder.change("rm crates/patterns/out/patterns");
     ask(&PROVING_PATTERNS);
-    folder.change("touch -d '1 hour ago' target/bin/patterns");
+    folder.change("touch -d '1 hour ago' crates/patterns/out/patterns");
     ask(&PROVING_PATTERNS);
     ask(&[]);
-    folder.change("mv other/* bin; rm -r target");
+    folder.change("mv other/* bin; rm -r crates/*/out");
     let ran = run(&folder, ASK);
     let said = untimed(&ran);
     let end = [LINKING[0], PROVING_PATTERNS[0], PROVING_PATTERNS[1]];

@@ -27,11 +27,11 @@ pub struct Page<'a> {
 }
 
 const HEADING: &str = "Which replies depend on the iteration allowance";
-const ONE_RUN: &str = "This rests on the theorem `one-run-tells` in `crates/claims/proofs/EachReply.antt`, which proves `OneRunTells` in \
+const ONE_RUN: &str = "This rests on the theorem `one_run_tells` in `crates/claims/proofs/EachReply.antt`, which proves `OneRunTells` in \
 `crates/claims/specs/EachReply.antt`: where every step byte of a reply is below its allowance, the reply in any job file that is alike outside \
 the operands of code 02 is the same exactly when the allowance there is at least the greatest of these step bytes. The step bytes are those \
-of a run with every allowance 255. A command that no allowance comes before has the same reply in all these files, by `reply-by-reply` there.";
-const TWO_RUNS: &str = "This rests on the theorems `reply-by-reply` and `slot-by-slot` in `crates/claims/proofs/EachReply.antt`, which prove \
+of a run with every allowance 255. A command that no allowance comes before has the same reply in all these files, by `reply_by_reply` there.";
+const TWO_RUNS: &str = "This rests on the theorems `reply_by_reply` and `slot_by_slot` in `crates/claims/proofs/EachReply.antt`, which prove \
 `ReplyByReply` and `SlotBySlot` in `crates/claims/specs/EachReply.antt`: of two accepted job files, alike byte for byte outside the operands of \
 code 02, the replies to a command are equal exactly when each walk that it begins has the same allowance in both or ends by itself within \
 the smaller; and the step bytes of a slot are equal exactly when its walk has the same allowance or ends so.";

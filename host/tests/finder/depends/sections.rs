@@ -28,7 +28,7 @@ fn a_section_for_the_form() {
         "{section}"
     );
     for name in [
-        "`one-run-tells` in `crates/claims/proofs/EachReply.antt`",
+        "`one_run_tells` in `crates/claims/proofs/EachReply.antt`",
         "`OneRunTells` in `crates/claims/specs/EachReply.antt`",
     ] {
         assert!(section.contains(name), "{section}");
@@ -62,7 +62,7 @@ fn a_section_for_two_files() {
         "{section}"
     );
     for name in [
-        "`reply-by-reply` and `slot-by-slot`",
+        "`reply_by_reply` and `slot_by_slot`",
         "`ReplyByReply` and `SlotBySlot`",
     ] {
         assert!(section.contains(name), "{section}");
