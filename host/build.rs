@@ -36,7 +36,7 @@ fn link(folder: &Path) {
     if !archive.is_file() {
         println!(
             "cargo::error=crates/finder/out/libfinder.a is missing: \
-             make it with `rt lib` in crates/finder"
+             make it with `rt lib --cpu x86-64` in crates/finder"
         );
     }
     println!("cargo::rustc-link-search=native={}", folder.display());

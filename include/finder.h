@@ -2,8 +2,8 @@
  * The special point finder for host programs in C11 or C++. Document 01, the customer's paper with the finder's rules, has every rule that is
  * named here.
  *
- * The library is crates/finder/out/libfinder.a (`rt lib` in crates/finder), for x86-64 with ELF and the System V calling convention; SSE2 is all that it
- * asks of the processor. Link it with the C library and its libm: cc -std=c11 -Iinclude host.c crates/finder/out/libfinder.a -lm
+ * The library is crates/finder/out/libfinder.a (`rt lib --cpu x86-64` in crates/finder), for x86-64 with ELF and the System V calling convention; SSE2
+ * is all that it asks of the processor. Link it with the C library and its libm: cc -std=c11 -Iinclude host.c crates/finder/out/libfinder.a -lm
  *
  * Proved, for every input (crates/finder/src/lib.rt has the contracts): what each function answers and leaves in memory, as said beside it
  * below, and that it never traps, always ends, and touches no byte of its host's but the memory that it is lent. That holds where the host sees
@@ -23,8 +23,8 @@
  *
  * There is no heap and no global state: the library has read-only data alone, keeps nothing between two calls, and calls may run at the same
  * time, also on the same job. It calls no function but its own and those of this line, which the host links (`fmod` stands for `%`, and the
- * compiler's back end calls the other two):
- * Undefined symbols: fmod memcpy memset
+ * compiler's back end calls the other):
+ * Undefined symbols: fmod memset
  * Floating-point exception flags of the thread may be raised after a call, and errno is what `fmod` leaves.
  */
 #ifndef FINDER_H

@@ -28,7 +28,7 @@ library() {
 }
 case "$* in ${PWD##*/}" in
     "version in "*) echo "a kit" ;;
-    "lib in finder") cat; library ;;
+    "lib --cpu x86-64 in finder") cat; library ;;
     "run in patterns") cat; make out/patterns ;;
     *) exit 1 ;;
 esac
