@@ -11,8 +11,6 @@ fn main() {
     let manifest = env::var("CARGO_MANIFEST_DIR").expect("cargo sets CARGO_MANIFEST_DIR");
     let repository = Path::new(&manifest).join("..");
     link(&repository.join("crates/finder/out"));
-    // `%` on f64 is the C library's fmod.
-    println!("cargo::rustc-link-lib=m");
     println!("cargo::rustc-env=FINDER_KIT=kit: {}", kit());
     reference::prepare(&repository);
 }

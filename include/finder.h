@@ -3,7 +3,7 @@
  * named here.
  *
  * The library is crates/finder/out/libfinder.a (`rt lib --cpu x86-64` in crates/finder), for x86-64 with ELF and the System V calling convention; SSE2
- * is all that it asks of the processor. Link it with the C library and its libm: cc -std=c11 -Iinclude host.c crates/finder/out/libfinder.a -lm
+ * is all that it asks of the processor. Link it with the C library: cc -std=c11 -Iinclude host.c crates/finder/out/libfinder.a
  *
  * Proved, for every input (crates/finder/src/lib.rt has the contracts): what each function answers and leaves in memory, as said beside it
  * below, and that it never traps, always ends, and touches no byte of its host's but the memory that it is lent. That holds where the host sees
@@ -22,10 +22,10 @@
  * where an empty buffer lies; the comparison of job files gives null for many.
  *
  * There is no heap and no global state: the library has read-only data alone, keeps nothing between two calls, and calls may run at the same
- * time, also on the same job. It calls no function but its own and those of this line, which the host links (`fmod` stands for `%`, and the
- * compiler's back end calls the other):
- * Undefined symbols: fmod memset
- * Floating-point exception flags of the thread may be raised after a call, and errno is what `fmod` leaves.
+ * time, also on the same job. It calls no function but its own and that of this line, which the host links (the compiler's back end calls
+ * it):
+ * Undefined symbols: memset
+ * Floating-point exception flags of the thread may be raised after a call.
  */
 #ifndef FINDER_H
 #define FINDER_H
@@ -34,9 +34,9 @@
 #include <stdint.h>
 
 /*
- * The stack of a call. Measured, not proved: the comparison of job files has met at most 3,624 bytes, return address and `fmod` included, which
- * is also the longest chain of calls by the sizes of the frames; here is more than twice as much. A dynamic linker that looks `fmod` up at its
- * first call takes a part of this stack too (about 6,400 bytes in all where it was tried); linked statically or with -z now there is no such look-up.
+ * The stack of a call. Measured, not proved: the comparison of job files has met at most 5,512 bytes, return address included, which is also the
+ * longest chain of calls by the sizes of the frames; here is nearly half as much again. A dynamic linker that looks `memset` up at its first call
+ * takes a part of this stack too (no more in all where it was tried); linked statically or with -z now there is no such look-up.
  */
 #define FINDER_STACK_BYTES 8192
 
