@@ -15,7 +15,7 @@ fn main() {
     let mut output = [0u8; listing::ROOM];
     let read = io::read_full(STDIN, &mut front);
     let written = listing::answer(front, read, &mut output);
-    // A program has no exit status, so that a write failed is said on standard error.
+    // That a write failed is said on standard error.
     if !io::write_all(STDOUT, &output[..written]) {
         io::write_all(STDERR, b"patterns: the output could not be written\n");
     }

@@ -10,7 +10,7 @@ const STDOUT: i32 = 1;
 
 const STDERR: i32 = 2;
 
-// The first n bytes of a buffer, where it has as many. A program has no exit status, so that a write failed is said on standard error.
+// The first n bytes of a buffer, where it has as many. That a write failed is said on standard error.
 fn write_front(buffer: &[u8], n: usize) {
     if n <= buffer.len() {
         if !io::write_all(STDOUT, &buffer[0..n]) {
