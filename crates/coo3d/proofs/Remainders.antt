@@ -15,11 +15,16 @@ use lib.Ieee.Exact.{HasValue, odd_sign}
 use lib.Ieee.Back.{round_whole}
 use lib.Ieee.Scale.{round_same}
 use Rattle.angles.specs.Floats.{◌⊖◌, ◌⊘◌, plus_zero}
-use Rattle.coo3d.specs.Quarters.{lon_mod_half_pi}
+use Rattle.angles.specs.Constants.{half_pi}
+use Rattle.coo3d.specs.Quarters.{half_pi_units, lon_mod_half_pi}
 
--- π/2 in units of 2 ^ -52
-abbrev units : ℕ
-units = 7074237752028440
+-- π/2 is so many times 2 ^ -49, as the float has it
+abbrev odd_units : ℕ
+odd_units = 884279719003555
+
+pub units_are : half_pi ≡ round binary64 false half_pi_units (2 ^ 52)
+unfolding of_bits round
+units_are = refl
 
 scaled_mod : (a b c : ℕ) → 0 < b → 0 < c → a * c % (b * c) ≡ a % b * c
 scaled_mod a b c h z =
@@ -41,10 +46,10 @@ below_whole p q a k h l z =
 
 -- the remainder of p / q, which is below 1, rounds the same fraction
 same_small : (s : Bool) (p q : ℕ) → p < q → 0 < q → (x y : ℕ) → x ≡ p → y ≡ q
-    → round binary64 s x y ≡ round binary64 s (p * 2 ^ 49 % (884279719003555 * 1 * q)) (q * 2 ^ 49)
+    → round binary64 s x y ≡ round binary64 s (p * 2 ^ 49 % (odd_units * 1 * q)) (q * 2 ^ 49)
 same_small s p q l z x y e f =
-    let m : p * 2 ^ 49 % (884279719003555 * 1 * q) ≡ p * 2 ^ 49 = mod-eq_of_lt (omega arith) in
-    round_same binary64 s x y (p * 2 ^ 49 % (884279719003555 * 1 * q)) (q * 2 ^ 49) (omega arith) (mul-pos z (pow_pos 49))
+    let m : p * 2 ^ 49 % (odd_units * 1 * q) ≡ p * 2 ^ 49 = mod-eq_of_lt (omega arith) in
+    round_same binary64 s x y (p * 2 ^ 49 % (odd_units * 1 * q)) (q * 2 ^ 49) (omega arith) (mul-pos z (pow_pos 49))
     (rw (m, e, f) (omega arith))
 
 itself : (v : Float) (s : Bool) (a : ℕ) → HasValue v s a (2 ^ 1074) → a < 2 ^ 1074 → v ⊖ plus_zero ≡ lon_mod_half_pi v
@@ -63,15 +68,15 @@ itself (fin false m e) s a h l =
 
 -- p / q, which is x units, leaves what x does
 left_of : (s : Bool) (p q x : ℕ) → 0 < q → p * 2 ^ 52 ≡ x * q
-    → round binary64 s (p * 2 ^ 49 % (884279719003555 * 1 * q)) (q * 2 ^ 49) ≡ round binary64 s (x % units) (2 ^ 52)
+    → round binary64 s (p * 2 ^ 49 % (odd_units * 1 * q)) (q * 2 ^ 49) ≡ round binary64 s (x % half_pi_units) (2 ^ 52)
 left_of s p q x z h =
-    let r = p * 2 ^ 49 % (884279719003555 * 1 * q) in
-    let e : r * 8 ≡ x % units * q =
-    sym (scaled_mod (p * 2 ^ 49) (884279719003555 * 1 * q) 8 (omega arith) (lit≤ tt))
-    ∙ ap (λ (y : ℕ). y % (884279719003555 * 1 * q * 8)) (omega arith)
+    let r = p * 2 ^ 49 % (odd_units * 1 * q) in
+    let e : r * 8 ≡ x % half_pi_units * q =
+    sym (scaled_mod (p * 2 ^ 49) (odd_units * 1 * q) 8 (omega arith) (lit≤ tt))
+    ∙ ap (λ (y : ℕ). y % (odd_units * 1 * q * 8)) (omega arith)
     ∙ ap (λ (y : ℕ). x * q % y) (omega arith)
-    ∙ scaled_mod x units q (lit≤ tt) z in
-    round_same binary64 s r (q * 2 ^ 49) (x % units) (2 ^ 52) (mul-pos z (pow_pos 49)) (pow_pos 52) (omega (arith, ap (λ (y : ℕ). y * 2 ^ 49) e))
+    ∙ scaled_mod x half_pi_units q (lit≤ tt) z in
+    round_same binary64 s r (q * 2 ^ 49) (x % half_pi_units) (2 ^ 52) (mul-pos z (pow_pos 49)) (pow_pos 52) (omega (arith, ap (λ (y : ℕ). y * 2 ^ 49) e))
 
 -- in units of 2 ^ -1074 it has 1022 places more
 in_units : (p q m k : ℕ) → p * 2 ^ 1074 ≡ m * 2 ^ (k + 1022) * q → p * 2 ^ 52 ≡ m * 2 ^ k * q
@@ -82,13 +87,13 @@ in_units p q m k h =
     spread : (x y : ℕ) → m * (x * y) * q ≡ m * x * q * y
     spread x y = omega arith
 
-left : (v : Float) (s : Bool) (m k : ℕ) → HasValue v s (m * 2 ^ (k + 1022)) (2 ^ 1074) → lon_mod_half_pi v ≡ round binary64 s (m * 2 ^ k % units) (2 ^ 52)
+left : (v : Float) (s : Bool) (m k : ℕ) → HasValue v s (m * 2 ^ (k + 1022)) (2 ^ 1074) → lon_mod_half_pi v ≡ round binary64 s (m * 2 ^ k % half_pi_units) (2 ^ 52)
 unfolding lon_mod_half_pi rem of_bits
 left nan s m k h = absurd h
 left (inf t) s m k h = absurd h
 left (fin t n e) s m k h =
     left_of t (n * up e) (down e) (m * 2 ^ k) (down_pos e) (in_units (n * up e) (down e) m k h.1)
-    ∙ ap (λ (b : Bool). round binary64 b (m * 2 ^ k % units) (2 ^ 52)) h.0
+    ∙ ap (λ (b : Bool). round binary64 b (m * 2 ^ k % half_pi_units) (2 ^ 52)) h.0
 
 -- a whole number of units
 over_unit : (s : Bool) (m : ℕ) (e : ℤ) (r : ℕ) → m * up e * 1 ≡ r * down e → round binary64 s (m * up e * 1) (1 * 2 ^ 52 * down e) ≡ round binary64 s r (2 ^ 52)
@@ -118,7 +123,7 @@ fields_below s (suc x) t h l =
     (lt_of_lt_of_le (shl_lt 53 x (omega arith)) (pow_mono {i = 53 + x} {j = 1074} (omega arith))))
 
 fields_left : (s : Bool) (x t : ℕ) → 1023 ≤ x → x < 2047 → t < 2 ^ 52
-    → lon_mod_half_pi (of_fields binary64 s x t) ≡ round binary64 s ((t + 2 ^ 52) * 2 ^ (x - 1023) % units) (2 ^ 52)
+    → lon_mod_half_pi (of_fields binary64 s x t) ≡ round binary64 s ((t + 2 ^ 52) * 2 ^ (x - 1023) % half_pi_units) (2 ^ 52)
 unfolding of_fields
 fields_left s zero t g h l = absurd (omega arith)
 fields_left s (suc x) t g h l =
@@ -142,6 +147,6 @@ unfolding of_bits of_fields
 no_number b h = rw h (special (leb (2 ^ 63) b) (eqb (b % 2 ^ 52) 0))
 
 pub from_1 : (b : ℕ) → 1023 ≤ b % 2 ^ 63 / 2 ^ 52 → b % 2 ^ 63 / 2 ^ 52 < 2047
-    → lon_mod_half_pi (of_bits binary64 b) ≡ round binary64 (leb (2 ^ 63) b) ((b % 2 ^ 52 + 2 ^ 52) * 2 ^ (b % 2 ^ 63 / 2 ^ 52 - 1023) % units) (2 ^ 52)
+    → lon_mod_half_pi (of_bits binary64 b) ≡ round binary64 (leb (2 ^ 63) b) ((b % 2 ^ 52 + 2 ^ 52) * 2 ^ (b % 2 ^ 63 / 2 ^ 52 - 1023) % half_pi_units) (2 ^ 52)
 unfolding of_bits
 from_1 b g h = fields_left (leb (2 ^ 63) b) (b % 2 ^ 63 / 2 ^ 52) (b % 2 ^ 52) g h (mod-lt b (pow_pos 52))

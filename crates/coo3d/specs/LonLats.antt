@@ -39,6 +39,6 @@ lon_lat_of x y z = record { lon = lon_of x y; lat = lat_of x y z }
 -- `vec3_of`
 unfoldable pub vec3_of : Float → Float → Vect3
 vec3_of lon lat =
-    let atLon = sin_cos_of lon in
-    let atLat = sin_cos_of lat in
-    vect (atLat.cos ⊗ atLon.cos) (atLat.cos ⊗ atLon.sin) atLat.sin
+    let at_lon = sin_cos_of lon in
+    let at_lat = sin_cos_of lat in
+    vect (at_lat.cos ⊗ at_lon.cos) (at_lat.cos ⊗ at_lon.sin) at_lat.sin

@@ -1,7 +1,7 @@
 // The quarter of the sphere that a longitude lies in, and the longitude within it.
 
-ghost use Rattle.std.specs.Prelude.{◌≡◌, ◌*◌, ◌%◌, ◌^◌, ◌<◌};
-ghost use Rattle.coo3d.specs.Quarters.{quarter_of, lon_mod_half_pi};
+ghost use Rattle.std.specs.Prelude.{◌≡◌, ◌*◌, ◌%◌, ◌^◌};
+ghost use Rattle.coo3d.specs.Quarters.{quarter_of, half_pi_units, lon_mod_half_pi};
 
 use super::point::Coo3D;
 use root::patterns;
@@ -27,7 +27,7 @@ pub fn quarter(lon: f64) -> u8
 
 // What m * 2 ^ k leaves when UNITS is taken off as often as it goes.
 fn rest_of(m: u64, k: u64) -> u64
-    ensures { result ≡ m * 2 ^ k % 7074237752028440 }
+    ensures { result ≡ m * 2 ^ k % half_pi_units }
 {
     let mut rest = m % UNITS;
     for _ in 0..k {

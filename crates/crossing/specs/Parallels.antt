@@ -45,9 +45,9 @@ quadratic arc z =
     let a = one ⊕ x0y0 ⊗ x0y0 in
     let b = two ⊗ x0y0 ⊗ zz0y0 in
     let c = zz0y0 ⊗ zz0y0 ⊕ z ⊗ z ⊖ one in
-    let sqrtDelta = root_of (b ⊗ b ⊖ four ⊗ a ⊗ c) in
-    let x1 = (neg b ⊕ sqrtDelta) ⊘ (two ⊗ a) in
-    let x2 = (neg b ⊖ sqrtDelta) ⊘ (two ⊗ a) in
+    let sqrt_delta = root_of (b ⊗ b ⊖ four ⊗ a ⊗ c) in
+    let x1 = (neg b ⊕ sqrt_delta) ⊘ (two ⊗ a) in
+    let x2 = (neg b ⊖ sqrt_delta) ⊘ (two ⊗ a) in
     first_that_passes arc (vect x1 (neg x1 ⊗ x0y0 ⊖ zz0y0) z) (vect x2 (neg x2 ⊗ x0y0 ⊖ zz0y0) z)
 
 -- the near-meridian rule, |y0| ≤ 1e-14, comes before the short-arc rule, below (1/3600) × (180/π) radians

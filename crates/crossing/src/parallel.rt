@@ -1,7 +1,7 @@
 // The crossing of an arc with the parallel of height z.
 
 ghost use Rattle.std.specs.Prelude.{◌≡◌};
-ghost use Rattle.crossing.specs.Parallels.{strictly_between, first_that_passes, near_meridian, short_arc, quadratic as quadraticOf, rule_of, crossing_by, crossing_of, intersect_parallel};
+ghost use Rattle.crossing.specs.Parallels.{strictly_between, first_that_passes, near_meridian, short_arc, quadratic as quadratic_of, rule_of, crossing_by, crossing_of, intersect_parallel};
 
 use super::great_arc::GreatArc;
 use angles::{PI, float, inverse};
@@ -67,7 +67,7 @@ impl GreatArc {
 
     // The roots of a x² + b x + c.
     fn quadratic(self, z: f64) -> Crossing
-        ensures { result ≡ quadraticOf self z }
+        ensures { result ≡ quadratic_of self z }
     {
         let x0_y0 = self.normal.x / self.normal.y;
         let zz0_y0 = z * self.normal.z / self.normal.y;

@@ -9,7 +9,7 @@ use lib.IntN.{pos}
 use lib.Ieee.{Float, fin, binary64, of_bits, to_bits, of_int, neg, fits, round}
 use lib.Ieee.Bits.{of_bits-to_bits}
 use Rattle.angles.specs.Floats.{◌⊖◌, ◌⊘◌, plus_zero}
-use Rattle.coo3d.specs.Quarters.{lon_mod_half_pi}
+use Rattle.coo3d.specs.Quarters.{half_pi_units, lon_mod_half_pi}
 use Rattle.coo3d.proofs.Remainders.{of_units, below_1, no_number, from_1}
 use Rattle.coo3d.proofs.quarter.lon_mod_half_pi.Goals as goal
 use Rattle.coo3d.proofs.quarter.lon_mod_half_pi.Goals.{then-b-lt-SIGN, else-b-lt-SIGN}
@@ -24,7 +24,7 @@ signed : (b r : ℕ) (x unit : Float)
     → unit ≡ fin (leb (2 ^ 63) b) 1 (pos 52)
     → 1023 ≤ b % 2 ^ 63 / 2 ^ 52
     → b % 2 ^ 63 / 2 ^ 52 < 2047
-    → r ≡ (b % 2 ^ 52 + 2 ^ 52) * 2 ^ (b % 2 ^ 63 / 2 ^ 52 - 1023) % 7074237752028440
+    → r ≡ (b % 2 ^ 52 + 2 ^ 52) * 2 ^ (b % 2 ^ 63 / 2 ^ 52 - 1023) % half_pi_units
     → r < 2 ^ 53
     → of_int binary64 (pos r) ⊘ unit ≡ lon_mod_half_pi x
 signed b r x unit e u g h k l =

@@ -6,6 +6,7 @@ use mathlib.Core.Path.{◌≡◌, ap, sym, ◌∙◌}
 use lib.Pow.{pow-add}
 use lib.Dec.{lit≤}
 use Rattle.std.proofs.lemmas.Nat.{mul-mod_second}
+use Rattle.coo3d.specs.Quarters.{half_pi_units}
 use Rattle.coo3d.proofs.quarter.rest_of.Goals as goal
 
 -- m * 2 ^ (n + 1) is 2 * (m * 2 ^ n)
@@ -19,4 +20,4 @@ doubled m n k u e =
 
 pub loop-preserved : goal.loop-preserved
 loop-preserved c =
-    (doubled c.args.m c.loop.rest c.loop.counter 7074237752028440 c.loop.invariant.0, mod-lt (2 * c.loop.rest) (lit≤ tt))
+    (doubled c.args.m c.loop.rest c.loop.counter half_pi_units c.loop.invariant.0, mod-lt (2 * c.loop.rest) (lit≤ tt))
