@@ -23,27 +23,27 @@ use Rattle.jobs.proofs.Files.{fitting_parsed}
 use Rattle.jobs.proofs.Passes.{fit_here, fit_next, pass}
 use Rattle.jobs.proofs.file.run.Goals as goal
 
--- what was found: a command of the table that lies in the file, and whose reply fits
-record Here (job reply : List ℕ) (at out code end : ℕ) : Type 0 where
+-- what was found: a command of the table that lies in the file, and whose reply fits the n bytes that are left
+record Here (job : List ℕ) (at code end n : ℕ) : Type 0 where
   known : Known code
   wide : end ≡ at + 1 + operand_width code
   inside : end ≤ length job
-  room : 2 + answer_width code ≤ length reply - out
-  fitting : Fitting (before (command_at job at code) (parsed_at job end)) (length reply - out)
+  room : 2 + answer_width code ≤ n
+  fitting : Fitting (before (command_at job at code) (parsed_at job end)) n
 
-here : (reply : List ℕ) (out : ℕ) {job : List ℕ} {at code end : ℕ} {i : Item}
+here : {job : List ℕ} {at code end n : ℕ} {i : Item}
     → i ≡ item_at job at
     → i ≡ item.Command code end
-    → Fitting (parsed_at job at) (length reply - out)
-    → Here job reply at out code end
-here reply out {job} {at} {code} {end} found told fitting =
+    → Fitting (parsed_at job at) n
+    → Here job at code end n
+here {job} {at} {code} {end} {n} found told fitting =
     let g = good_item job at _ _ found told in
-    let f = subst (λ (p : Parsed). Fitting p (length reply - out)) (at_item job at _ _ found told) fitting in
+    let f = subst (λ (p : Parsed). Fitting p n) (at_item job at _ _ found told) fitting in
     record {
       known = g.0;
       wide = g.1;
       inside = g.2;
-      room = fit_here (command_at job at code) (parsed_at job end) (length reply - out) f;
+      room = fit_here (command_at job at code) (parsed_at job end) n f;
       fitting = f;
     }
 
@@ -52,14 +52,13 @@ unset-state-requires c = tt
 
 pub loop-code-init : goal.loop-code-init
 loop-code-init c =
-    let start = c in
-    let job = start.args.job.now in
-    let reply = start.args.reply.now in
-    let e = fitting_parsed job (length reply) start.requires in (
+    let job = c.args.job.now in
+    let reply = c.args.reply.now in
+    let e = fitting_parsed job (length reply) c.requires in (
       omega arith,
       omega arith,
       refl,
-      subst (λ (p : Parsed). Fitting p (length reply - 0)) e (subst (Fitting (file_of job)) (sym (sub-zero (length reply))) start.requires),
+      subst (λ (p : Parsed). Fitting p (length reply - 0)) e (subst (Fitting (file_of job)) (sym (sub-zero (length reply))) c.requires),
       rw c.unset-state.ensures (ap (λ (p : Parsed). filled unset p reply) e),
     )
 
@@ -67,26 +66,26 @@ pub item_at-requires : goal.item_at-requires
 item_at-requires c = tt
 
 pub overflow_add-start : goal.overflow_add-start
-overflow_add-start c = let h = here c.args.reply.now c.loop-code.out c.item_at.ensures c.in-Command.is c.loop-code.invariant.3 in omega (arith, h.wide, h.inside)
+overflow_add-start c = let h = here c.item_at.ensures c.in-Command.is c.loop-code.invariant.3 in omega (arith, h.wide, h.inside)
 
 pub reply_width-requires : goal.reply_width-requires
-reply_width-requires c = let h = here c.args.reply.now c.loop-code.out c.item_at.ensures c.in-Command.is c.loop-code.invariant.3 in h.known
+reply_width-requires c = let h = here c.item_at.ensures c.in-Command.is c.loop-code.invariant.3 in h.known
 
 pub overflow_add-to : goal.overflow_add-to
-overflow_add-to c = let h = here c.args.reply.now c.loop-code.out c.item_at.ensures c.in-Command.is c.loop-code.invariant.3 in omega (arith, h.room)
+overflow_add-to c = let h = here c.item_at.ensures c.in-Command.is c.loop-code.invariant.3 in omega (arith, h.room)
 
 pub slice_bounds-turn-count : goal.slice_bounds-turn-count
-slice_bounds-turn-count c = let h = here c.args.reply.now c.loop-code.out c.item_at.ensures c.in-Command.is c.loop-code.invariant.3 in omega (arith, h.wide)
+slice_bounds-turn-count c = let h = here c.item_at.ensures c.in-Command.is c.loop-code.invariant.3 in omega (arith, h.wide)
 
 pub slice_bounds-turn-start : goal.slice_bounds-turn-start
-slice_bounds-turn-start c = let h = here c.args.reply.now c.loop-code.out c.item_at.ensures c.in-Command.is c.loop-code.invariant.3 in omega (arith, h.wide)
+slice_bounds-turn-start c = let h = here c.item_at.ensures c.in-Command.is c.loop-code.invariant.3 in omega (arith, h.wide)
 
 pub slice_bounds-turn-end : goal.slice_bounds-turn-end
-slice_bounds-turn-end c = let h = here c.args.reply.now c.loop-code.out c.item_at.ensures c.in-Command.is c.loop-code.invariant.3 in h.inside
+slice_bounds-turn-end c = let h = here c.item_at.ensures c.in-Command.is c.loop-code.invariant.3 in h.inside
 
 pub turn-t-requires : goal.turn-t-requires
 turn-t-requires c =
-    let h = here c.args.reply.now c.loop-code.out c.item_at.ensures c.in-Command.is c.loop-code.invariant.3 in (h.known, simp (length-take, length-drop) (omega (arith, h.wide, h.inside)))
+    let h = here c.item_at.ensures c.in-Command.is c.loop-code.invariant.3 in (h.known, simp (length-take, length-drop) (omega (arith, h.wide, h.inside)))
 
 pub slice_bounds-put-count : goal.slice_bounds-put-count
 slice_bounds-put-count c = omega arith
@@ -95,11 +94,11 @@ pub slice_bounds-put-start : goal.slice_bounds-put-start
 slice_bounds-put-start c = omega arith
 
 pub slice_bounds-put-end : goal.slice_bounds-put-end
-slice_bounds-put-end c = let h = here c.args.reply.now c.loop-code.out c.item_at.ensures c.in-Command.is c.loop-code.invariant.3 in omega (arith, h.room)
+slice_bounds-put-end c = let h = here c.item_at.ensures c.in-Command.is c.loop-code.invariant.3 in omega (arith, h.room)
 
 pub put-requires : goal.put-requires
 put-requires c =
-    let h = here c.args.reply.now c.loop-code.out c.item_at.ensures c.in-Command.is c.loop-code.invariant.3 in
+    let h = here c.item_at.ensures c.in-Command.is c.loop-code.invariant.3 in
     let code = c.in-Command.code in
     let s = c.loop-code.state in
     let r = c.reply_width in (
@@ -108,14 +107,13 @@ put-requires c =
     )
 
 pub loop-code-smaller : goal.loop-code-smaller
-loop-code-smaller c = let h = here c.args.reply.now c.loop-code.out c.item_at.ensures c.in-Command.is c.loop-code.invariant.3 in omega (arith, h.wide, h.inside)
+loop-code-smaller c = let h = here c.item_at.ensures c.in-Command.is c.loop-code.invariant.3 in omega (arith, h.wide, h.inside)
 
 pub loop-code-preserved : goal.loop-code-preserved
 unfolding reply_of after
 loop-code-preserved c =
-    let h = here c.args.reply.now c.loop-code.out c.item_at.ensures c.in-Command.is c.loop-code.invariant.3 in
-    let start = c in
-    let job = start.args.job.now in
+    let h = here c.item_at.ensures c.in-Command.is c.loop-code.invariant.3 in
+    let job = c.args.job.now in
     let l = c.loop-code in
     let s = l.state in
     let code = c.in-Command.code in
@@ -124,7 +122,7 @@ loop-code-preserved c =
     let turn = c.turn-t in
     let command = command_at job l.at code in
     let next = parsed_at job end in
-    let n = length start.args.reply.now - l.out in
+    let n = length c.args.reply.now - l.out in
     let w : end - (l.at + 1) ≡ operand_width code = omega (arith, h.wide) in
     let j : l.out + r.result - l.out ≡ r.result = omega arith in
     let o : turn.result ≡ turn_of (row_of code) s command.operands =

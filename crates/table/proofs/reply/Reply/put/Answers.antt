@@ -11,12 +11,11 @@ use Rattle.table.proofs.reply.Reply.put.Goals as goal
 pub returns : goal.returns
 unfolding reply_bytes
 returns c =
-    let start = c in
     let two = c.put_two in
     let answer = c.put_answer in
-    let n = length start.args.out.now - 2 in
-    let w : n ≡ answer_width start.args.code = omega (arith, start.requires.0) in
-    let is : answer.new.out ≡ answer_bytes (answer_width start.args.code) start.args.self = answer.ensures ∙ ap (λ (k : ℕ). answer_bytes k start.args.self) (simp (length-take, length-drop) (omega arith)) in
-    let u1 = upto_more two.new.out 2 (upto_none start.args.out.now) (ap length two.ensures) in
-    let u2 = upto_more answer.new.out n u1 (ap length is ∙ start.requires.1 ∙ sym w) in
+    let n = length c.args.out.now - 2 in
+    let w : n ≡ answer_width c.args.code = omega (arith, c.requires.0) in
+    let is : answer.new.out ≡ answer_bytes (answer_width c.args.code) c.args.self = answer.ensures ∙ ap (λ (k : ℕ). answer_bytes k c.args.self) (simp (length-take, length-drop) (omega arith)) in
+    let u1 = upto_more two.new.out 2 (upto_none c.args.out.now) (ap length two.ensures) in
+    let u2 = upto_more answer.new.out n u1 (ap length is ∙ c.requires.1 ∙ sym w) in
     upto_all u2 (omega arith) ∙ rw (two.ensures, is, c.status-status.ensures) refl
