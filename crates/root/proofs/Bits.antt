@@ -9,7 +9,7 @@ use mathlib.Core.Bool.{Bool, true, false, not, cond, true≢false, false≢true}
 use lib.IntN.{ℤ}
 use lib.Dec.{T, leb, ltb, eqb, lit≤, leb→le, nleb→lt, ltb→lt, nltb→le}
 use lib.Count.{count_leading_zeros, leading_top}
-use lib.Ieee.{Float, nan, inf, fin, binary64, up, down, odd, size, of_fields, of_bits}
+use lib.Ieee.{Float, nan, inf, fin, binary64, up, down, odd, size, is_nan, of_fields, of_bits}
 use lib.Ieee.Digits.{size-lt, size-le}
 use lib.Ieee.Fits.{down_pos}
 use lib.Pow.{pow-add, pow_pos, pow_mono, shl_lt}
@@ -19,7 +19,7 @@ use Rattle.whole_root.specs.Roots.{IsNearest}
 use Rattle.root.specs.Root.{nearest_root, in_units, root_of_square, root_of}
 use Rattle.root.specs.RootDigits.{digits_of_whole, digits_of_square, digits_of}
 use Rattle.root.specs.Parts.{Reads, Parted}
-use Rattle.root.proofs.Nan.{nan_pattern}
+use Rattle.root.proofs.Nan.{only_nan, nan_pattern}
 use Rattle.root.proofs.Whole.{nearest_is, one_nearest, nearest_long, nearest_short}
 use Rattle.root.proofs.Searched.{fewest_told}
 
@@ -201,8 +201,6 @@ pub parted : (b m g : ℕ) → 2 ^ 52 ≤ m → m < 2 ^ 53 → 52 ≤ g → g < 
 parted b m g l h w u r =
     let d = doubled m g l h in
     record {
-      least = d.least;
-      most = omega (arith, d.most);
       high = omega arith;
       root = λ n near. let p = written m g l h w u n near in (p.0, p.1 ∙ sym r.root);
       digits = λ n f.
@@ -291,6 +289,10 @@ special_digits b (inr l) h = go (ltb (2047 * 2 ^ 52) b) (ltb→lt _ _) (nltb→l
         ap (λ (x : ℕ). digits_of (of_bits binary64 x)) e ∙ unfold of_bits digits_of in refl
 
 -- ---- the values that are their own roots
+
+pub nan_root : (x : Float) → is_nan x ≡ true → x ≡ root_of x
+unfolding root_of
+nan_root x h = let e = only_nan x h in e ∙ ap root_of (sym e)
 
 own : (b n : ℕ) → b ≡ n → root_of (of_bits binary64 n) ≡ of_bits binary64 n → of_bits binary64 b ≡ root_of (of_bits binary64 b)
 own b n e h = cc

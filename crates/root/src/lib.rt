@@ -11,13 +11,7 @@ ghost use Rattle.std.specs.Float.Ieee.{of_bits, to_bits};
 ghost use Rattle.root.specs.Root.{root_of};
 ghost use Rattle.root.specs.RootDigits.{digits_of};
 
-// A root, with how many binary digits of it are told from the leading 1: the fewest that, with zeros after them, are the exact root, 53 where none are,
-// and 0 for a zero, negative, infinite or NaN argument.
-#[derive(Clone, Copy)]
-pub struct ToldRoot {
-    pub root: f64,
-    pub digits: u64,
-}
+use whole_root::digits::Counted;
 
 // The square root of the value with the pattern b, which is not both finite and above zero.
 fn special_root(b: u64) -> f64
@@ -33,26 +27,24 @@ fn special_root(b: u64) -> f64
     f64::from_bits(b)
 }
 
-// The square root of x with its digits told, by the digit loop.
-pub fn root_told(x: f64) -> ToldRoot
+// The square root of x, with how many binary digits of it are told from the leading 1, by the digit loop: the fewest that, with zeros after them, are the
+// exact root, 53 where none are, and 0 for a zero, negative, infinite or NaN argument.
+pub fn root_told(x: f64) -> Counted<f64>
     ensures { (result.root ≡ root_of x) × (result.digits ≡ digits_of x) }
 {
-    if x != x {
-        return ToldRoot { root: x, digits: 0 };
+    if x.is_nan() {
+        return Counted { root: x, digits: 0 };
     }
-    let b = f64::to_bits(x);
-    if b > 0 {
-        if b < patterns::INFINITY {
-            let c = normal::counted(b);
-            return ToldRoot {
-                root: f64::from_bits(c.root),
-                digits: c.digits,
-            };
-        }
-    }
-    ToldRoot {
-        root: special_root(b),
-        digits: 0,
+    let b = x.to_bits();
+    match normal::counted(b) {
+        Some(c) => Counted {
+            root: f64::from_bits(c.root),
+            digits: c.digits,
+        },
+        None => Counted {
+            root: special_root(b),
+            digits: 0,
+        },
     }
 }
 
@@ -60,14 +52,13 @@ pub fn root_told(x: f64) -> ToldRoot
 pub fn root(x: f64) -> f64
     ensures { result ≡ root_of x }
 {
-    if x != x {
+    if x.is_nan() {
         return x;
     }
-    let r = normal::divided(f64::to_bits(x));
-    if r != 0 {
-        return f64::from_bits(r);
+    match normal::divided(x.to_bits()) {
+        Some(r) => f64::from_bits(r),
+        None => root_told(x).root,
     }
-    root_told(x).root
 }
 
 // The same on bit patterns, for every pattern: a NaN answer is 7FF8000000000000. Where the division answers, no float is made on the way, which would take
@@ -75,9 +66,8 @@ pub fn root(x: f64) -> f64
 pub fn root_of_bits(bits: u64) -> u64
     ensures { result ≡ to_bits binary64 (root_of (of_bits binary64 bits)) }
 {
-    let r = normal::divided(bits);
-    if r != 0 {
-        return r;
+    match normal::divided(bits) {
+        Some(r) => r,
+        None => patterns::bits_of(root_told(patterns::float_of(bits)).root),
     }
-    patterns::bits_of(root_told(patterns::float_of(bits)).root)
 }

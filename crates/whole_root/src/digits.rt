@@ -4,6 +4,8 @@ ghost use Rattle.std.specs.Prelude.{◌≡◌, ◌+◌, ◌*◌, ◌^◌, ◌≤
 ghost use Rattle.whole_root.specs.Roots.{WholeRoot, IsNearest, Fewest};
 ghost use Rattle.whole_root.specs.Digits.{Estimate, Digits, Longer, remains_of};
 
+use super::Radicand;
+
 // A whole root and its remainder: root * root + rem is the number, and rem is at most 2 * root.
 #[derive(Clone, Copy)]
 pub struct RootRem {
@@ -11,10 +13,10 @@ pub struct RootRem {
     pub rem: u64,
 }
 
-// A rounded root of 53 digits, and the digits told of it: the fewest that, with zeros after them, are the exact root, or 53 where none are.
+// A rounded root of 53 digits, as a T, and the digits told of it: the fewest that, with zeros after them, are the exact root, or 53 where none are.
 #[derive(Clone, Copy)]
-pub struct Counted {
-    pub root: u64,
+pub struct Counted<T> {
+    pub root: T,
     pub digits: u64,
 }
 
@@ -42,11 +44,12 @@ fn leading(x: u64) -> RootRem
 }
 
 // The root of a number with two more digits, h and l, in the base b: the root gets one more, by a division.
-fn longer(q: u64, r: u64, b: u64, h: u64, l: u64) -> RootRem
-    requires { Digits q r b h l }
-    ensures { Longer q r b h l result.root result.rem }
+fn longer(of: RootRem, b: u64, h: u64, l: u64) -> RootRem
+    requires { Digits of.root of.rem b h l }
+    ensures { Longer of.root of.rem b h l result.root result.rem }
 {
-    let n = r * b + h;
+    let q = of.root;
+    let n = of.rem * b + h;
     let p = n / (2 * q);
     let u = n % (2 * q);
     let s = q * b + p;
@@ -64,7 +67,7 @@ fn gain(n: u64) -> u64
     requires { (0 < n) × (n < 53) }
     ensures { (0 < result) × (result ≤ n) × (n + result ≤ 53) }
 {
-    if n < 27 { n } else { 53 - n }
+    n.min(53 - n)
 }
 
 // Whether something remains, a remainder r or a nonzero digit of d, where those stand that are still to be brought down.
@@ -76,41 +79,35 @@ fn remains(r: u64, d: u64) -> bool
 
 // The root of m * 2 ^ 52, of 53 digits. At the top of d stand the digits of m that are still to be brought down. The loop leaves as soon as nothing
 // remains: the other digits of the root are zeros.
-fn sqrt_rem(m: u64) -> RootRem
-    requires { (2 ^ 52 ≤ m) × (m < 2 ^ 54) }
-    ensures { WholeRoot (m * 2 ^ 52) result.root result.rem }
+fn sqrt_rem(of: Radicand) -> RootRem
+    ensures { WholeRoot (of.m * 2 ^ 52) result.root result.rem }
 {
-    let first = leading(m / 0x100_0000_0000);
-    let mut q = first.root;
-    let mut r = first.rem;
-    let mut d = m << 24;
+    let mut s = leading(of.m / 0x100_0000_0000);
+    let mut d = of.m << 24;
     let mut n: u64 = 7;
-    while (n < 53) & remains(r, d) {
-        let s = gain(n);
-        let h = d >> (64 - s);
-        let e = d << s;
-        let l = e >> (64 - s);
-        let next = longer(q, r, 1 << s, h, l);
-        q = next.root;
-        r = next.rem;
-        d = e << s;
-        n += s;
+    while (n < 53) & remains(s.rem, d) {
+        let k = gain(n);
+        let h = d >> (64 - k);
+        let e = d << k;
+        let l = e >> (64 - k);
+        s = longer(s, 1 << k, h, l);
+        d = e << k;
+        n += k;
     }
     RootRem {
-        root: q << (53 - n),
-        rem: r,
+        root: s.root << (53 - n),
+        rem: s.rem,
     }
 }
 
 // The whole number nearest to the root of m * 2 ^ 52, with the digits told.
-pub fn counted_root(m: u64) -> Counted
-    requires { (2 ^ 52 ≤ m) × (m < 2 ^ 54) }
-    ensures { (IsNearest (m * 2 ^ 52) result.root) × (Fewest (m * 2 ^ 52) result.digits) }
+pub fn counted_root(of: Radicand) -> Counted<u64>
+    ensures { (IsNearest (of.m * 2 ^ 52) result.root) × (Fewest (of.m * 2 ^ 52) result.digits) }
 {
-    let s = sqrt_rem(m);
+    let s = sqrt_rem(of);
     let q = s.root;
     if s.rem == 0 {
-        let zeros = u64::trailing_zeros(q) as u64;
+        let zeros = q.trailing_zeros() as u64;
         return Counted {
             root: q,
             digits: 53 - zeros,

@@ -4,7 +4,7 @@ use Prim.Native.Nat.{ℕ, ◌^◌}
 use native.Mathlib.Omega.{arith}
 use lib.Ieee.{binary64, neg, of_bits}
 use Rattle.root.specs.Root.{root_of}
-use Rattle.root.proofs.Nan.{no_nan_pattern}
+use Rattle.std.proofs.lemmas.Float.{not_nan_f64_bits}
 use Rattle.root.proofs.Bits.{read_high, own_root}
 use Rattle.root.proofs.special_root.Goals as goal
 
@@ -19,7 +19,7 @@ pub returns-then-b-gt-INFINITY : goal.returns-then-b-gt-INFINITY
 returns-then-b-gt-INFINITY c = c.not_a_number.ensures ∙ sym (read_high _ c.if-b-gt-INFINITY.true (omega arith) c.if-b-eq-SIGN.false)
 
 pub float_from_bits-result : goal.float_from_bits-result
-float_from_bits-result c = no_nan_pattern c.args.b (omega arith)
+float_from_bits-result c = not_nan_f64_bits c.args.b (omega arith)
 
 pub returns : goal.returns
 returns c = own_root _ c.requires c.if-b-gt-INFINITY.false

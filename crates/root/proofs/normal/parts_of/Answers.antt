@@ -34,8 +34,8 @@ overflow_add-g c = omega (arith, at c, shifted _ _ (at c))
 pub even_parts-requires : goal.even_parts-requires
 even_parts-requires c = let m = at c in record { significand = kept (shifted _ _ m) m.least m.most; power = omega arith }
 
-pub returns-then-e-eq0 : goal.returns-then-e-eq0
-returns-then-e-eq0 c =
+pub returns-then-e-eq0-clause-parts : goal.returns-then-e-eq0-clause-parts
+returns-then-e-eq0-clause-parts c =
     let b = c.args.b in
     let t = b % 2 ^ 52 in
     let m = at c.before in
@@ -47,8 +47,8 @@ returns-then-e-eq0 c =
     c.even_parts.ensures.1
     (parted b (t * 2 ^ s) (1074 - s) m.least m.most (omega arith) (omega arith) r)
 
-pub returns-else-e-eq0 : goal.returns-else-e-eq0
-returns-else-e-eq0 c =
+pub returns-else-e-eq0-clause-parts : goal.returns-else-e-eq0-clause-parts
+returns-else-e-eq0-clause-parts c =
     let b = c.args.b in
     same
     c.even_parts-else-e-eq0.ensures.0

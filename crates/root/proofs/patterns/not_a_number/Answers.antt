@@ -1,8 +1,8 @@
--- 0 / 0 computes to the NaN.
-use lib.Ieee.{div, of_bits}
+-- The constant's pattern is a NaN's.
+use lib.Ieee.{of_bits}
 use mathlib.Core.Path.{refl}
 use Rattle.root.proofs.patterns.not_a_number.Goals as goal
 
 pub returns : goal.returns
-unfolding div of_bits
+unfolding of_bits
 returns c = refl

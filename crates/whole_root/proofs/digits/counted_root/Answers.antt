@@ -11,7 +11,7 @@ use Rattle.whole_root.proofs.digits.counted_root.Goals.{Then-s-eq0}
 
 few : (c : Then-s-eq0) → count_trailing_zeros 64 c.sqrt_rem-s.result.root < 53
 few c =
-    let m = c.args.m in
+    let m = c.args.of.m in
     few_zeros (m * 2 ^ 52) _ _ m refl (omega arith) (omega arith) c.sqrt_rem-s.ensures
 
 pub overflow_cast-zeros : goal.overflow_cast-zeros
@@ -22,7 +22,7 @@ overflow_sub-result c = omega (arith, few c)
 
 pub returns-then-s-eq0 : goal.returns-then-s-eq0
 returns-then-s-eq0 c =
-    let m = c.args.m in
+    let m = c.args.of.m in
     let w = c.sqrt_rem-s.ensures in
     (nearest_down (m * 2 ^ 52) _ _ (omega arith) w (omega arith), exactly (m * 2 ^ 52) _ _ m refl (omega arith) (omega arith) w c.if-s-eq0.true)
 
@@ -33,7 +33,7 @@ overflow_add-result c =
 
 pub returns : goal.returns
 returns c =
-    let m = c.args.m in
+    let m = c.args.of.m in
     let s = c.sqrt_rem-s in (
       nearest (m * 2 ^ 52) _ _ (omega arith) s.ensures (ltb s.result.root s.result.rem) (ltb→lt _ _) (nltb→le _ _),
       none (m * 2 ^ 52) _ _ m refl (omega arith) (omega arith) s.ensures c.if-s-eq0.false,

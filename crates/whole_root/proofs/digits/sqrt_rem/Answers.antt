@@ -6,15 +6,15 @@ use lib.Dec.{ltb}
 use native.Mathlib.Omega.{arith}
 use Rattle.whole_root.proofs.Loop.{Brought, Digit, top_digit, power, more, begun, asked, turn, left}
 use Rattle.whole_root.proofs.digits.sqrt_rem.Goals as goal
-use Rattle.whole_root.proofs.digits.sqrt_rem.Goals.{After-gain-s}
+use Rattle.whole_root.proofs.digits.sqrt_rem.Goals.{After-gain-k}
 
 pub loop-n-init : goal.loop-n-init
-loop-n-init c = begun _ _ _ c.requires.0 c.leading-first.ensures
+loop-n-init c = begun _ _ _ (omega arith) c.leading-s.ensures
 
 -- a turn's two digits, and what holds before and after it
-module _ (c : After-gain-s) where
+module _ (c : After-gain-k) where
   abbrev s : ℕ
-  s = c.gain-s.result
+  s = c.gain-k.result
 
   abbrev e : ℕ
   e = c.loop-n.d * 2 ^ s % 2 ^ 64
@@ -25,17 +25,17 @@ module _ (c : After-gain-s) where
   second : Digit (2 ^ s) e (e / 2 ^ (64 - s)) (e * 2 ^ s % 2 ^ 64)
   second = top_digit s e (omega arith) first.word
 
-  holds : Brought c.args.m c.loop-n.d c.loop-n.q c.loop-n.r c.loop-n.n
+  holds : Brought c.args.of.m c.loop-n.d c.loop-n.s.root c.loop-n.s.rem c.loop-n.n
   holds = c.loop-n.invariant
 
-  fewer : c.args.m < 2 ^ 54
+  fewer : c.args.of.m < 2 ^ 54
   fewer = omega arith
 
   base : 1 * 2 ^ s % 2 ^ 64 ≡ 2 ^ s
   base = power s (omega arith)
 
-pub gain-s-requires : goal.gain-s-requires
-gain-s-requires c = omega (arith, more c.loop-n.n c.remains.result c.loop-n-test.true)
+pub gain-k-requires : goal.gain-k-requires
+gain-k-requires c = omega (arith, more c.loop-n.n c.remains.result c.loop-n-test.true)
 
 pub overflow_sub-h : goal.overflow_sub-h
 overflow_sub-h c = omega arith
@@ -52,9 +52,9 @@ overflow_sub-l c = omega arith
 pub overflow_shr-l : goal.overflow_shr-l
 overflow_shr-l c = omega arith
 
-pub longer-next-requires : goal.longer-next-requires
-longer-next-requires c =
-    let g = c.gain-s.ensures in
+pub longer-s-requires : goal.longer-s-requires
+longer-s-requires c =
+    let g = c.gain-k.ensures in
     rw (base c) (asked _ _ _ _ _ (fewer c) (holds c) (s c) g.0 g.1 g.2 _ _ _ _ (first c) (second c))
 
 pub overflow_shl-d-in-loop-n : goal.overflow_shl-d-in-loop-n
@@ -69,8 +69,8 @@ loop-n-smaller c = omega arith
 pub loop-n-preserved : goal.loop-n-preserved
 loop-n-preserved c =
     let b = c.before in
-    let g = b.gain-s.ensures in
-    turn _ _ _ _ _ (fewer b) (holds b) (s b) g.0 g.1 g.2 _ _ _ _ (first b) (second b) _ _ (rw (base b) at c.longer-next.ensures)
+    let g = b.gain-k.ensures in
+    turn _ _ _ _ _ (fewer b) (holds b) (s b) g.0 g.1 g.2 _ _ _ _ (first b) (second b) _ _ (rw (base b) at c.longer-s.ensures)
 
 pub overflow_sub-result : goal.overflow_sub-result
 overflow_sub-result c = omega arith
