@@ -1,45 +1,52 @@
--- The tests by which the helpers on f64 tell a float's sign, size and kind, each equal to what specs/Floats.antt reads off the float.
--- Each law goes by the float's form; a finite float that isn't zero has a whole number above 0 in the test.
-use lib.Ieee.{Float, nan, inf, fin, neg, div, of_bits, lt, eq, up, down}
-use lib.Ieee.Fits.{up_pos}
-use lib.IntN.{ℤ}
-use lib.Dec.{eqb}
-use borrow.Author.Tests.{lt-ltb, le-ltb, ne_eqb}
-use native.Mathlib.Nat.{mul-pos, zero-mul}
-use native.Mathlib.Omega.{arith}
-use Prim.Native.Nat.{ℕ, zero, suc, ◌*◌, ◌<◌, ◌+◌}
-use mathlib.Core.Path.{◌≡◌, refl}
-use mathlib.Core.Bool.{true, false, cond, ◌&&◌}
-use Rattle.angles.specs.Floats.{◌⊘◌, one, plus_zero, sign_of, finite_of, abs_of}
+-- What std's methods on f64 give, as specs/Floats.antt says it, by the float's form.
+use lib.Ieee.{Float, nan, inf, fin, is_nan, lt, eq, ne, up, down}
+use borrow.Author.Tests.{eq-eqb}
+use Prim.Native.Nat.{◌*◌}
+use mathlib.Core.Path.{◌≡◌, refl, sym}
+use mathlib.Core.Bool.{Bool, true, false, cond, ◌||◌, true≢false}
+use Rattle.std.specs.Float.{is_sign_negative, float_is_finite, float_with_sign}
+use Rattle.angles.specs.Floats.{sign_of, finite_of, abs_of, min_of, max_of}
 
-above_zero : (m : ℕ) (e : ℤ) → 0 < suc m * up e
-above_zero m e = mul-pos (omega arith) (up_pos e)
+pub sign_is : (x : Float) → is_sign_negative x ≡ sign_of x
+unfolding is_sign_negative sign_of
+sign_is nan = refl
+sign_is (inf s) = refl
+sign_is (fin s m e) = refl
 
-not_zero : (m : ℕ) (e : ℤ) → eqb (suc m * up e * 1) (0 * down e) ≡ false
-not_zero m e = ne_eqb (suc m * up e * 1) (0 * down e) (λ h. omega (arith, above_zero m e))
+pub no_sign : (x : Float) → is_nan x ≡ true → false ≡ sign_of x
+unfolding is_nan sign_of
+no_sign nan h = refl
+no_sign (inf s) h = absurd (true≢false (sym h))
+no_sign (fin s m e) h = absurd (true≢false (sym h))
 
-pub sign_by_tests : (x : Float) → cond (eq x plus_zero) (lt (one ⊘ x) plus_zero) (lt x plus_zero) ≡ sign_of x
-unfolding eq lt div of_bits sign_of
-sign_by_tests nan = refl
-sign_by_tests (inf s) = refl
-sign_by_tests (fin true zero e) = simp zero-mul
-sign_by_tests (fin false zero e) = simp zero-mul
-sign_by_tests (fin true (suc m) e) =
-    simp (not_zero m e, lt-ltb 0 (suc m * up e * 1 + 0 * down e) (omega (arith, above_zero m e)))
-sign_by_tests (fin false (suc m) e) =
-    simp (not_zero m e, le-ltb (suc m * up e * 1) (0 * down e) (omega (arith, above_zero m e)))
+pub finite_is : (x : Float) → float_is_finite x ≡ finite_of x
+unfolding float_is_finite finite_of
+finite_is nan = refl
+finite_is (inf s) = refl
+finite_is (fin s m e) = refl
 
-pub abs_by_sign : (x : Float) → cond (sign_of x) (neg x) x ≡ abs_of x
-unfolding sign_of abs_of neg
-abs_by_sign nan = refl
-abs_by_sign (inf true) = refl
-abs_by_sign (inf false) = refl
-abs_by_sign (fin true m e) = refl
-abs_by_sign (fin false m e) = refl
+pub abs_is : (x : Float) → float_with_sign false x ≡ abs_of x
+unfolding float_with_sign abs_of
+abs_is nan = refl
+abs_is (inf s) = refl
+abs_is (fin s m e) = refl
 
-pub finite_by_tests : (x : Float) → (lt (neg (one ⊘ plus_zero)) x && lt x (one ⊘ plus_zero)) ≡ finite_of x
-unfolding lt div neg of_bits finite_of
-finite_by_tests nan = refl
-finite_by_tests (inf true) = refl
-finite_by_tests (inf false) = refl
-finite_by_tests (fin s m e) = refl
+pub nan_by_test : (x : Float) → ne x x ≡ is_nan x
+unfolding ne eq is_nan
+nan_by_test nan = refl
+nan_by_test (inf true) = refl
+nan_by_test (inf false) = refl
+nan_by_test (fin true m e) = simp (eq-eqb (m * up e * down e) _ refl)
+nan_by_test (fin false m e) = simp (eq-eqb (m * up e * down e) _ refl)
+
+either : (a b : Bool) (x y : Float) → cond (a || b) y x ≡ cond a y (cond b y x)
+either true b x y = refl
+either false b x y = refl
+
+pub min_is : (x y : Float) → cond (is_nan x || lt y x) y x ≡ min_of x y
+unfolding min_of
+min_is x y = rw nan_by_test (either (is_nan x) (lt y x) x y)
+
+pub max_is : (x y : Float) → cond (is_nan x || lt x y) y x ≡ max_of x y
+unfolding max_of
+max_is x y = rw nan_by_test (either (is_nan x) (lt x y) x y)

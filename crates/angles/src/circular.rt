@@ -3,7 +3,7 @@
 ghost use Rattle.std.specs.Prelude.{◌≡◌};
 ghost use Rattle.angles.specs.Circular.{sine_series, cosine_series, within_quarter_turn, quarter_turns, turned_by, signed_sine, sin_cos_of};
 
-use super::{HALF_PI, QUARTER_PI, float};
+use super::{HALF_PI, QUARTER_PI, float, series};
 
 #[derive(Clone, Copy)]
 pub struct SinCos {
@@ -14,33 +14,41 @@ pub struct SinCos {
 fn sine_series(r: f64) -> f64
     ensures { result ≡ sine_series r }
 {
-    let u = r * r;
-    let s = 1.0 / 355687428096000.0;
-    let s = s * u + -1.0 / 1307674368000.0;
-    let s = s * u + 1.0 / 6227020800.0;
-    let s = s * u + -1.0 / 39916800.0;
-    let s = s * u + 1.0 / 362880.0;
-    let s = s * u + -1.0 / 5040.0;
-    let s = s * u + 1.0 / 120.0;
-    let s = s * u + -1.0 / 6.0;
-    let s = s * u + 1.0;
+    let s = series::horner(
+        r * r,
+        1.0 / 355687428096000.0,
+        &[
+            -1.0 / 1307674368000.0,
+            1.0 / 6227020800.0,
+            -1.0 / 39916800.0,
+            1.0 / 362880.0,
+            -1.0 / 5040.0,
+            1.0 / 120.0,
+            -1.0 / 6.0,
+            1.0,
+        ],
+    );
     s * r
 }
 
 fn cosine_series(r: f64) -> f64
     ensures { result ≡ cosine_series r }
 {
-    let u = r * r;
-    let s = -1.0 / 6402373705728000.0;
-    let s = s * u + 1.0 / 20922789888000.0;
-    let s = s * u + -1.0 / 87178291200.0;
-    let s = s * u + 1.0 / 479001600.0;
-    let s = s * u + -1.0 / 3628800.0;
-    let s = s * u + 1.0 / 40320.0;
-    let s = s * u + -1.0 / 720.0;
-    let s = s * u + 1.0 / 24.0;
-    let s = s * u + -1.0 / 2.0;
-    s * u + 1.0
+    series::horner(
+        r * r,
+        -1.0 / 6402373705728000.0,
+        &[
+            1.0 / 20922789888000.0,
+            -1.0 / 87178291200.0,
+            1.0 / 479001600.0,
+            -1.0 / 3628800.0,
+            1.0 / 40320.0,
+            -1.0 / 720.0,
+            1.0 / 24.0,
+            -1.0 / 2.0,
+            1.0,
+        ],
+    )
 }
 
 // Sine and cosine of an r from 0 to π/2.
@@ -81,23 +89,20 @@ impl SinCos {
     fn turned_by(self, k: u8) -> SinCos
         ensures { result ≡ turned_by k self }
     {
-        if k == 0 {
-            self
-        } else if k == 1 {
-            SinCos {
+        match k {
+            0 => self,
+            1 => SinCos {
                 sin: self.cos,
                 cos: -self.sin,
-            }
-        } else if k == 2 {
-            SinCos {
+            },
+            2 => SinCos {
                 sin: -self.sin,
                 cos: -self.cos,
-            }
-        } else {
-            SinCos {
+            },
+            _ => SinCos {
                 sin: -self.cos,
                 cos: self.sin,
-            }
+            },
         }
     }
 
@@ -119,7 +124,7 @@ impl SinCos {
 pub fn sin_cos(v: f64) -> SinCos
     ensures { result ≡ sin_cos_of v }
 {
-    if v != v {
+    if v.is_nan() {
         return SinCos { sin: v, cos: v };
     }
     let a = float::abs(v);

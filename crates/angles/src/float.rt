@@ -7,20 +7,19 @@ ghost use Rattle.angles.specs.Floats.{sign_of, finite_of, abs_of, signed_of, min
 pub fn sign(x: f64) -> bool
     ensures { result ≡ sign_of x }
 {
-    if x == 0.0 { 1.0 / x < 0.0 } else { x < 0.0 }
+    !x.is_nan() && x.is_sign_negative()
 }
 
 pub fn is_finite(x: f64) -> bool
     ensures { result ≡ finite_of x }
 {
-    let top = 1.0 / 0.0;
-    (-top < x) & (x < top)
+    x.is_finite()
 }
 
 pub fn abs(x: f64) -> f64
     ensures { result ≡ abs_of x }
 {
-    if sign(x) { -x } else { x }
+    x.abs()
 }
 
 // x with its sign bit set or cleared.
@@ -34,23 +33,11 @@ pub fn signed(set: bool, x: f64) -> f64
 pub fn min(x: f64, y: f64) -> f64
     ensures { result ≡ min_of x y }
 {
-    if x != x {
-        y
-    } else if y < x {
-        y
-    } else {
-        x
-    }
+    if x.is_nan() | (y < x) { y } else { x }
 }
 
 pub fn max(x: f64, y: f64) -> f64
     ensures { result ≡ max_of x y }
 {
-    if x != x {
-        y
-    } else if x < y {
-        y
-    } else {
-        x
-    }
+    if x.is_nan() | (x < y) { y } else { x }
 }

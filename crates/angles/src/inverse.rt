@@ -3,7 +3,7 @@
 ghost use Rattle.std.specs.Prelude.{◌≡◌};
 ghost use Rattle.angles.specs.Inverse.{half_angle, arctangent_of, first_quadrant, reflected_of, atan2_of, acos_of};
 
-use super::{HALF_PI, PI, float};
+use super::{HALF_PI, PI, float, series};
 use root::patterns;
 
 // From the tangent of an angle to the tangent of its half.
@@ -19,18 +19,23 @@ fn arctangent(t: f64) -> f64
 {
     let t = half_angle(half_angle(t));
     let u = t * t;
-    let s = -1.0 / 23.0;
-    let s = s * u + 1.0 / 21.0;
-    let s = s * u + -1.0 / 19.0;
-    let s = s * u + 1.0 / 17.0;
-    let s = s * u + -1.0 / 15.0;
-    let s = s * u + 1.0 / 13.0;
-    let s = s * u + -1.0 / 11.0;
-    let s = s * u + 1.0 / 9.0;
-    let s = s * u + -1.0 / 7.0;
-    let s = s * u + 1.0 / 5.0;
-    let s = s * u + -1.0 / 3.0;
-    let s = s * u + 1.0;
+    let s = series::horner(
+        u,
+        -1.0 / 23.0,
+        &[
+            1.0 / 21.0,
+            -1.0 / 19.0,
+            1.0 / 17.0,
+            -1.0 / 15.0,
+            1.0 / 13.0,
+            -1.0 / 11.0,
+            1.0 / 9.0,
+            -1.0 / 7.0,
+            1.0 / 5.0,
+            -1.0 / 3.0,
+            1.0,
+        ],
+    );
     s * t * 4.0
 }
 

@@ -5,8 +5,9 @@
 pub mod circular;
 pub mod float;
 pub mod inverse;
+mod series;
 
-pub const PI: f64 = 3.141592653589793;
+pub const PI: f64 = std::f64::consts::PI;
 
 pub const HALF_PI: f64 = 0.5 * PI;
 

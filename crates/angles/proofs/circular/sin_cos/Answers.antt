@@ -1,11 +1,15 @@
--- A float that differs from itself is the NaN. For any other the callees' contracts give the parts of `sin_cos_of`.
+-- Of a NaN the answer is v itself. For any other the callees' contracts give the parts of `sin_cos_of`.
+use mathlib.Core.Path.{sym}
 use Rattle.angles.specs.Circular.{sin_cos_of}
 use Rattle.root.proofs.Nan.{only_nan}
+use Rattle.angles.proofs.Floats.{nan_by_test}
 use Rattle.angles.proofs.circular.sin_cos.Goals as goal
 
-pub returns-then-v : goal.returns-then-v
+pub returns-then-is_nan : goal.returns-then-is_nan
 unfolding sin_cos_of
-returns-then-v c = rw (c.if-v.true, only_nan c.args.v c.if-v.true)
+returns-then-is_nan c =
+    let n = sym c.if-is_nan.ensures.value in
+    rw (nan_by_test c.args.v, n, only_nan c.args.v n)
 
 pub returns : goal.returns
 unfolding sin_cos_of
@@ -17,5 +21,6 @@ returns c =
       ← c.within_quarter_turn.ensures,
       ← c.quarter_turns-k.ensures,
       ← c.abs-a.ensures,
-      c.if-v.false,
+      nan_by_test c.args.v,
+      ← c.if-is_nan.ensures.value,
     )

@@ -1,6 +1,6 @@
--- The code's test is that of `finite_by_tests`.
-use Rattle.angles.proofs.Floats.{finite_by_tests}
+use mathlib.Core.Path.{◌∙◌}
+use Rattle.angles.proofs.Floats.{finite_is}
 use Rattle.angles.proofs.float.is_finite.Goals as goal
 
 pub returns : goal.returns
-returns c = finite_by_tests c.args.x
+returns c = c.is_finite.ensures.value ∙ finite_is c.args.x

@@ -1,9 +1,9 @@
--- Each return is the branch of `sign_by_tests` that the test chose.
-use Rattle.angles.proofs.Floats.{sign_by_tests}
+use mathlib.Core.Path.{sym, ◌∙◌}
+use Rattle.angles.proofs.Floats.{sign_is, no_sign}
 use Rattle.angles.proofs.float.sign.Goals as goal
 
-pub returns-then-x : goal.returns-then-x
-returns-then-x c = simp (← sign_by_tests c.args.x, c.if-x.true)
+pub returns-then-not-is_nan : goal.returns-then-not-is_nan
+returns-then-not-is_nan c = c.is_sign_negative.ensures ∙ sign_is c.args.x
 
-pub returns-else-x : goal.returns-else-x
-returns-else-x c = simp (← sign_by_tests c.args.x, c.if-x.false)
+pub returns-else-not-is_nan : goal.returns-else-not-is_nan
+returns-else-not-is_nan c = rw c.if-not-is_nan.false (no_sign c.args.x (sym c.if-not-is_nan.ensures.value))

@@ -1,30 +1,23 @@
--- Each return is the branch of `turned_by` that the tests chose.
-use borrow.Author.Tests.{eq-eqb, ne_eqb}
+-- Each return is the branch of `turned_by` that the match chose.
+use native.Mathlib.Omega.{arith}
+use borrow.Author.Tests.{ne_eqb}
 use Rattle.angles.specs.Circular.{turned_by}
 use Rattle.angles.proofs.circular.SinCos.turned_by.Goals as goal
 
-pub returns-then-k-eq0 : goal.returns-then-k-eq0
+pub returns-in-0 : goal.returns-in-0
 unfolding turned_by
-returns-then-k-eq0 c = simp (eq-eqb _ _ c.if-k-eq0.true)
+returns-in-0 c = simp c.in-0.is
 
-pub returns-then-k-eq1 : goal.returns-then-k-eq1
+pub returns-in-1 : goal.returns-in-1
 unfolding turned_by
-returns-then-k-eq1 c = simp (eq-eqb _ _ c.if-k-eq1.true, ne_eqb _ _ c.if-k-eq0.false)
+returns-in-1 c = simp c.in-1.is
 
-pub returns-then-k-eq2 : goal.returns-then-k-eq2
+pub returns-in-2 : goal.returns-in-2
 unfolding turned_by
-returns-then-k-eq2 c =
-    simp (
-      eq-eqb _ _ c.if-k-eq2.true,
-      ne_eqb _ _ c.if-k-eq1.false,
-      ne_eqb _ _ c.if-k-eq0.false,
-    )
+returns-in-2 c = simp c.in-2.is
 
-pub returns-else-k-eq2 : goal.returns-else-k-eq2
+pub returns-in_default : goal.returns-in_default
 unfolding turned_by
-returns-else-k-eq2 c =
-    simp (
-      ne_eqb _ _ c.if-k-eq2.false,
-      ne_eqb _ _ c.if-k-eq1.false,
-      ne_eqb _ _ c.if-k-eq0.false,
-    )
+returns-in_default c =
+    let k = c.args.k in
+    simp (ne_eqb k 0 (λ e. omega arith), ne_eqb k 1 (λ e. omega arith), ne_eqb k 2 (λ e. omega arith))
