@@ -1,3 +1,4 @@
+-- What std calls finite is `finite_of`.
 use mathlib.Core.Path.{◌∙◌}
 use Rattle.angles.proofs.Floats.{finite_is}
 use Rattle.angles.proofs.float.is_finite.Goals as goal

@@ -1,3 +1,4 @@
+-- A NaN has no sign, and the sign that std reads off any other float is that of `sign_of`.
 use mathlib.Core.Path.{sym, ◌∙◌}
 use Rattle.angles.proofs.Floats.{sign_is, no_sign}
 use Rattle.angles.proofs.float.sign.Goals as goal
