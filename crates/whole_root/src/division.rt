@@ -24,10 +24,13 @@ pub fn nearest_root(of: Radicand, pattern: u64) -> Option<u64>
     ensures { IfSome result (IsNearest (of.m * 2 ^ 52)) }
 {
     let s = root_estimate::estimate(pattern);
-    let d = (of.m * 64).checked_sub(s * s)?;
-    if 12 * s < d {
-        None
-    } else {
-        Some(last_turn(s, d))
+    let x = of.m * 64;
+    if x < s * s {
+        return None;
     }
+    let d = x - s * s;
+    if 12 * s < d {
+        return None;
+    }
+    Some(last_turn(s, d))
 }

@@ -15,7 +15,5 @@ overflow_mul-s c =
 same : (m s : ℕ) → s * s ≤ m * 64 → (s * s + (m * 64 - s * s)) * 2 ^ 46 ≡ m * 2 ^ 52
 same m s l = omega arith
 
-pub returns-else-s-d : goal.returns-else-s-d
-returns-else-s-d c =
-    let d = c.in_ok-d.ensures in
-    rw (d.1, same _ _ d.0) at c.last_turn.ensures
+pub returns : goal.returns
+returns c = rw (same _ _ c.if-x-s.false) at c.last_turn.ensures
