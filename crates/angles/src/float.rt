@@ -1,4 +1,4 @@
-// Helpers in place of Rust's methods on f64.
+// Helpers on f64 with the contracts of specs/Floats.antt. They stay beside std's methods: those ask for a number or leave the sign of a zero open.
 
 ghost use Rattle.std.specs.Prelude.{◌≡◌};
 ghost use Rattle.angles.specs.Floats.{sign_of, finite_of, abs_of, signed_of, min_of, max_of};

@@ -3,20 +3,12 @@ use mathlib.Core.Path.{◌≡◌, sym, ap, ◌∙◌, subst}
 use Prim.Native.Nat.{ℕ, suc, ◌+◌, ◌-◌, ◌*◌, ◌/◌, ◌%◌, ◌^◌, ◌≤◌, ◌<◌}
 use native.Mathlib.Nat.{le_trans, lt_of_not-le, lt_irrefl, le-add_right, mul-pos, mul-le-mul, mul-le-mul_right, div-add-mod', div-lt_iff_lt-mul, mod-lt, mul_comm, mul-one, zero-mul, mul-lt-mul_of_pos_right, mod-eq_of_lt}
 use native.Mathlib.Omega.{arith}
-use mathlib.Core.Bool.{Bool, true, false, not, ◌&&◌, ◌||◌, true≢false, false≢true}
-use lib.Dec.{T, ltb, eqb, ltb→lt, nltb→le, eqb→eq}
+use mathlib.Core.Bool.{Bool, true, false, not, ◌&&◌, ◌||◌, true≢false}
+use lib.Dec.{T, ltb, eqb, nltb→le, eqb→eq}
 use lib.Pow.{pow-add, pow_pos, pow_mono, pow-lt}
 use Rattle.whole_root.specs.Roots.{WholeRoot}
 use Rattle.whole_root.specs.Digits.{Digits, Longer, remains_of}
-use Rattle.whole_root.proofs.Squares.{root_lt, all_places}
-
--- the loop goes on where digits are still to be worked out and something remains
-pub more : (n : ℕ) (b : Bool) → (ltb n 53 && b) ≡ true → n < 53
-more n b h = go (ltb n 53) (ltb→lt n 53) h
-  where
-    go : (a : Bool) → (T a → n < 53) → (a && b) ≡ true → n < 53
-    go true x h = x tt
-    go false x h = absurd (false≢true h)
+use Rattle.whole_root.proofs.Squares.{all_places}
 
 -- n digits of the root are worked out. The 54 digits of m stand at the top of 64, with zeros after them: q is the whole root of the first 2 * n, with
 -- r left, and d has those that follow, moved to the top.
@@ -148,16 +140,3 @@ module _ (m d q r n : ℕ) (fits : m < 2 ^ 54) (i : Brought m d q r n) where
       go true true true x y z h = exact (y tt) (z tt)
       go true true false x y z h = absurd (true≢false h)
       go true false c x y z h = absurd (true≢false h)
-
--- before the first turn
-pub begun : (m q r : ℕ) → 2 ^ 52 ≤ m → WholeRoot (m / 2 ^ 40) q r → Brought m (m * 2 ^ 24 % 2 ^ 64) q r 7
-begun m q r l w =
-    let least : 64 < suc q = root_lt 64 (suc q) (omega (arith, w.digits, w.rest)) in
-    record {
-      digits = omega (arith, w.digits);
-      rest = w.rest;
-      least = omega arith;
-      some = omega arith;
-      most = omega arith;
-      word = omega arith;
-    }

@@ -28,11 +28,6 @@ twice_product a b = go (leb a b) (leb→le a b) (nleb→lt a b)
 pub all_places : (k : ℕ) → k ≤ 53 → 2 ^ k * 2 ^ (53 - k) ≡ 2 ^ 53
 all_places k l = sym (pow-add 2 k (53 - k)) ∙ ap (λ (x : ℕ). 2 ^ x) (add-sub_of_le l)
 
--- a truth value as a number
-pub bit : (t : Bool) → bool_byte t ≤ 1
-bit true = omega arith
-bit false = omega arith
-
 module _ (a q r : ℕ) (some : 0 < a) (w : WholeRoot a q r) where
   pub some_root : 0 < q
   some_root = go q w.digits w.rest

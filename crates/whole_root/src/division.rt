@@ -24,6 +24,7 @@ pub fn nearest_root(of: Radicand, pattern: u64) -> Option<u64>
     ensures { IfSome result (IsNearest (of.m * 2 ^ 52)) }
 {
     let s = root_estimate::estimate(pattern);
+    // Two comparisons: with `checked_sub` a root takes a tenth longer.
     let x = of.m * 64;
     if x < s * s {
         return None;

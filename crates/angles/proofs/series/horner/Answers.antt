@@ -1,13 +1,9 @@
 -- One step of `horner` takes the next coefficient, and after the last none is left.
-use mathlib.Core.Path.{refl}
 use lib.Ieee.{nan}
 use Rattle.std.proofs.Common.{add-one, drop-cons}
 use Rattle.std.proofs.lemmas.List.{drop_all}
 use Rattle.angles.specs.Inverse.{horner}
 use Rattle.angles.proofs.series.horner.Goals as goal
-
-pub loop-k-init : goal.loop-k-init
-loop-k-init c = refl
 
 pub loop-k-preserved : goal.loop-k-preserved
 unfolding horner

@@ -4,7 +4,7 @@ use Prim.Native.Nat.{◌*◌, ◌^◌, ◌<◌}
 use native.Mathlib.Omega.{arith}
 use lib.Count.{count_trailing_zeros}
 use lib.Dec.{ltb, ltb→lt, nltb→le}
-use Rattle.whole_root.proofs.Squares.{bit, root_short, nearest, nearest_down}
+use Rattle.whole_root.proofs.Squares.{nearest, nearest_down}
 use Rattle.whole_root.proofs.Fewest.{few_zeros, exactly, none}
 use Rattle.whole_root.proofs.digits.counted_root.Goals as goal
 use Rattle.whole_root.proofs.digits.counted_root.Goals.{Then-s-eq0}
@@ -14,9 +14,6 @@ few c =
     let m = c.args.of.m in
     few_zeros (m * 2 ^ 52) _ _ m refl (omega arith) (omega arith) c.sqrt_rem-s.ensures
 
-pub overflow_cast-zeros : goal.overflow_cast-zeros
-overflow_cast-zeros c = omega (arith, few c)
-
 pub overflow_sub-result : goal.overflow_sub-result
 overflow_sub-result c = omega (arith, few c)
 
@@ -25,11 +22,6 @@ returns-then-s-eq0 c =
     let m = c.args.of.m in
     let w = c.sqrt_rem-s.ensures in
     (nearest_down (m * 2 ^ 52) _ _ (omega arith) w (omega arith), exactly (m * 2 ^ 52) _ _ m refl (omega arith) (omega arith) w c.if-s-eq0.true)
-
-pub overflow_add-result : goal.overflow_add-result
-overflow_add-result c =
-    let s = c.sqrt_rem-s in
-    omega (arith, root_short _ _ _ (omega arith) s.ensures (omega arith), bit (ltb s.result.root s.result.rem))
 
 pub returns : goal.returns
 returns c =
