@@ -37,10 +37,7 @@ fn parts_of(b: u64) -> Option<Parts>
     ensures parts { IfSome result (λ p. Parted b p.radicand.m p.k) }
     ensures none { IsNone result → (b ≡ 0) ⊎ (0x7ff0_0000_0000_0000 ≤ b) }
 {
-    if b == 0 {
-        return None;
-    }
-    if b >= INFINITY {
+    if b == 0 || b >= INFINITY {
         return None;
     }
     let e = b / EXPONENT;
