@@ -1,4 +1,3 @@
-pub mod Quarters
 pub mod Heights
 pub mod LastOfTurn
 pub mod WholeTurns

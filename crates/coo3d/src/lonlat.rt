@@ -38,19 +38,19 @@ pub fn lon_of(x: f64, y: f64) -> f64
     }
 }
 
-fn lat_of(x: f64, y: f64, z: f64) -> f64
-    ensures { result ≡ lat_of x y z }
+fn lat_of(v: Vect3) -> f64
+    ensures { result ≡ lat_of v.x v.y v.z }
 {
-    inverse::atan2(z, root::root(x * x + y * y))
+    inverse::atan2(v.z, root::root(v.x * v.x + v.y * v.y))
 }
 
 // The source's lonlat_of, and its UnitVect3::lonlat.
-pub fn lonlat_of(x: f64, y: f64, z: f64) -> LonLat
-    ensures { (result ≡ lon_lat_of x y z) × InTurn result.lon }
+pub fn lonlat_of(v: Vect3) -> LonLat
+    ensures { (result ≡ lon_lat_of v.x v.y v.z) × InTurn result.lon }
 {
     LonLat {
-        lon: lon_of(x, y),
-        lat: lat_of(x, y, z),
+        lon: lon_of(v.x, v.y),
+        lat: lat_of(v),
     }
 }
 

@@ -23,14 +23,14 @@ impl Coo3D {
     // Document 01's T.
     pub const TRANSITION_Z: f64 = 2.0 / 3.0;
 
-    pub fn from_vec3(x: f64, y: f64, z: f64) -> Coo3D
-        ensures { result ≡ from_vec3 x y z }
+    pub fn from_vec3(v: Vect3) -> Coo3D
+        ensures { result ≡ from_vec3 v.x v.y v.z }
     {
-        let p = lonlat::lonlat_of(x, y, z);
+        let p = lonlat::lonlat_of(v);
         Coo3D {
-            x,
-            y,
-            z,
+            x: v.x,
+            y: v.y,
+            z: v.z,
             lon: p.lon,
             lat: p.lat,
         }
@@ -49,17 +49,20 @@ impl Coo3D {
                 lat,
             }
         } else {
-            Coo3D::from_vec3(v.x, v.y, v.z)
+            Coo3D::from_vec3(v)
         }
     }
+}
 
-    pub fn vect(self) -> Vect3
-        ensures { result ≡ vect_of self }
-    {
+impl From<Coo3D> for Vect3 {
+    ghost from_gives = { λ p v. v ≡ vect_of p };
+
+    #[tactic(auto, unfolding(crate::specs::Points::vect_of))]
+    fn from(p: Coo3D) -> Vect3 {
         Vect3 {
-            x: self.x,
-            y: self.y,
-            z: self.z,
+            x: p.x,
+            y: p.y,
+            z: p.z,
         }
     }
 }

@@ -10,19 +10,11 @@ use root::patterns;
 const UNITS: u64 = 7074237752028440;
 
 // The whole part of the rounded quotient by π/2, as Rust's `as u8` cuts it.
+#[tactic(auto, unfolding(crate::specs::Quarters::quarter_of))]
 pub fn quarter(lon: f64) -> u8
     ensures { result ≡ quarter_of lon }
 {
-    let q = lon / Coo3D::HALF_PI;
-    if q > -1.0 {
-        if q < 256.0 {
-            std::num::truncating_f64_to_u64(q) as u8
-        } else {
-            255
-        }
-    } else {
-        0
-    }
+    std::num::saturating_f64_to_u8(lon / Coo3D::HALF_PI)
 }
 
 // What m * 2 ^ k leaves when UNITS is taken off as often as it goes.

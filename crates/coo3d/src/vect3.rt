@@ -12,9 +12,6 @@ pub struct Vect3 {
     pub z: f64,
 }
 
-// f64::EPSILON.
-const EPSILON: f64 = 2.220446049250313e-16;
-
 pub fn dot_product(v: Vect3, w: Vect3) -> f64
     ensures { result ≡ dot_of v w }
 {
@@ -66,7 +63,7 @@ impl Vect3 {
     {
         let v = Vect3 { x, y, z };
         let norm2 = v.squared_norm();
-        if float::abs(norm2 - 1.0) <= EPSILON {
+        if float::abs(norm2 - 1.0) <= f64::EPSILON {
             v
         } else {
             v.divided_by(root::root(norm2))

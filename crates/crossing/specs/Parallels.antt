@@ -1,5 +1,5 @@
 -- Document 01, "Crossing a parallel": `intersect_parallel` and its three ends, each expression in the source's grouping. Definitions only.
-use Rattle.std.specs.Prelude.{Float, Bool, cond, ◌&&◌, ◌||◌}
+use Rattle.std.specs.Prelude.{Float, Bool, cond, ◌&&◌, ◌||◌, Result, Ok, Err}
 use Rattle.std.specs.Float.Ieee.{neg, lt, le}
 use Rattle.root.specs.Root.{root_of}
 use Rattle.angles.specs.Floats.{◌⊕◌, ◌⊖◌, ◌⊗◌, ◌⊘◌, one, abs_of}
@@ -8,11 +8,15 @@ use Rattle.angles.specs.Inverse.{atan2_of}
 use Rattle.coo3d.specs.declared.vect3.Vect3.{Vect3}
 use Rattle.coo3d.specs.Vectors.{vect, new_unit}
 use Rattle.crossing.specs.declared.great_arc.GreatArc.{GreatArc}
-use Rattle.crossing.specs.declared.parallel.Crossing.{Crossing}
-use Rattle.crossing.specs.declared.parallel.Crossing.TheVariants.{At, NotBetween, NoRoot}
+use Rattle.crossing.specs.declared.parallel.NoCrossing.{NoCrossing}
+use Rattle.crossing.specs.declared.parallel.NoCrossing.TheVariants.{NotBetween, NoRoot}
 use Rattle.crossing.specs.declared.parallel.Rule.{Rule}
 use Rattle.crossing.specs.declared.parallel.Rule.TheVariants.{NearMeridian, ShortArc, Quadratic}
 use Rattle.crossing.specs.GreatArcs.{great_arc, passes_of}
+
+-- a vector, or why there is none
+abbrev pub Crossing : Type 0
+Crossing = Result Vect3 NoCrossing
 
 -- z strictly between a and b, whichever is the smaller
 unfoldable pub strictly_between : Float → Float → Float → Bool
@@ -20,7 +24,7 @@ strictly_between a z b = (lt a z && lt z b) || (lt b z && lt z a)
 
 -- the first root that passes the two scalar product tests; kind 5 (Rust's `unreachable!`) where neither does
 unfoldable pub first_that_passes : GreatArc → Vect3 → Vect3 → Crossing
-first_that_passes arc v w = cond (passes_of arc v) (At v) (cond (passes_of arc w) (At w) NoRoot)
+first_that_passes arc v w = cond (passes_of arc v) (Ok v) (cond (passes_of arc w) (Ok w) (Err NoRoot))
 
 -- the near-meridian rule
 unfoldable pub near_meridian : GreatArc → Float → Crossing
@@ -58,12 +62,12 @@ rule_of arc =
 
 unfoldable pub by_rule : GreatArc → Rule → Float → Crossing
 by_rule arc NearMeridian z = near_meridian arc z
-by_rule arc ShortArc z = At (short_arc arc z)
+by_rule arc ShortArc z = Ok (short_arc arc z)
 by_rule arc Quadratic z = quadratic arc z
 
 -- kind 4 (Rust's None) where the height is not strictly between the ends
 unfoldable pub crossing_by : GreatArc → Rule → Float → Crossing
-crossing_by arc rule z = cond (strictly_between arc.p1.z z arc.p2.z) (by_rule arc rule z) NotBetween
+crossing_by arc rule z = cond (strictly_between arc.p1.z z arc.p2.z) (by_rule arc rule z) (Err NotBetween)
 
 unfoldable pub crossing_of : GreatArc → Float → Crossing
 crossing_of arc z = crossing_by arc (rule_of arc) z

@@ -12,10 +12,9 @@ const SHORT_ARC: f64 = (1.0 / 3600.0) * (180.0 / PI);
 
 const NEAR_MERIDIAN: f64 = 1.0e-14;
 
-// The three ends of intersect_parallel: a vector, the height not strictly between the ends, neither root passes.
-#[derive(Clone, Copy)]
-pub enum Crossing {
-    At(Vect3),
+// Why there is no crossing: the height is not strictly between the ends, or neither root passes.
+#[derive(Clone, Copy, Debug, PartialEq, Eq)]
+pub enum NoCrossing {
     NotBetween,
     NoRoot,
 }
@@ -35,19 +34,19 @@ pub fn strictly_between(a: f64, z: f64, b: f64) -> bool
 }
 
 impl GreatArc {
-    fn first_that_passes(self, v: Vect3, w: Vect3) -> Crossing
+    fn first_that_passes(self, v: Vect3, w: Vect3) -> Result<Vect3, NoCrossing>
         ensures { result ≡ first_that_passes self v w }
     {
         if self.passes(v) {
-            Crossing::At(v)
+            Ok(v)
         } else if self.passes(w) {
-            Crossing::At(w)
+            Ok(w)
         } else {
-            Crossing::NoRoot
+            Err(NoCrossing::NoRoot)
         }
     }
 
-    fn near_meridian(self, z: f64) -> Crossing
+    fn near_meridian(self, z: f64) -> Result<Vect3, NoCrossing>
         ensures { result ≡ near_meridian self z }
     {
         let x = -(z * self.normal.z) / self.normal.x;
@@ -66,7 +65,7 @@ impl GreatArc {
     }
 
     // The roots of a x² + b x + c.
-    fn quadratic(self, z: f64) -> Crossing
+    fn quadratic(self, z: f64) -> Result<Vect3, NoCrossing>
         ensures { result ≡ quadratic_of self z }
     {
         let x0_y0 = self.normal.x / self.normal.y;
@@ -95,28 +94,28 @@ impl GreatArc {
         }
     }
 
-    pub fn crossing_by(self, rule: Rule, z: f64) -> Crossing
+    #[tactic(auto, unfolding(crate::specs::Parallels::crossing_by, crate::specs::Parallels::by_rule))]
+    pub fn crossing_by(self, rule: Rule, z: f64) -> Result<Vect3, NoCrossing>
         ensures { result ≡ crossing_by self rule z }
     {
-        if strictly_between(self.p1.z, z, self.p2.z) {
-            match rule {
-                Rule::NearMeridian => self.near_meridian(z),
-                Rule::ShortArc => Crossing::At(self.short_arc(z)),
-                Rule::Quadratic => self.quadratic(z),
-            }
-        } else {
-            Crossing::NotBetween
+        if !strictly_between(self.p1.z, z, self.p2.z) {
+            return Err(NoCrossing::NotBetween);
+        }
+        match rule {
+            Rule::NearMeridian => self.near_meridian(z),
+            Rule::ShortArc => Ok(self.short_arc(z)),
+            Rule::Quadratic => self.quadratic(z),
         }
     }
 
-    pub fn crossing(self, z: f64) -> Crossing
+    pub fn crossing(self, z: f64) -> Result<Vect3, NoCrossing>
         ensures { result ≡ crossing_of self z }
     {
         self.crossing_by(self.rule(), z)
     }
 }
 
-pub fn intersect_parallel(p1: Vect3, p2: Vect3, z: f64) -> Crossing
+pub fn intersect_parallel(p1: Vect3, p2: Vect3, z: f64) -> Result<Vect3, NoCrossing>
     ensures { result ≡ intersect_parallel p1 p2 z }
 {
     GreatArc::new(p1, p2).crossing(z)

@@ -8,6 +8,8 @@ use Rattle.angles.specs.Constants.{half, one_over_transition_z, two, three, quar
 use Rattle.angles.specs.Inverse.{acos_of}
 use Rattle.newton.specs.declared.slope.Cone.{Cone}
 use Rattle.newton.specs.declared.slope.Terms.{Terms}
+use Rattle.newton.specs.declared.slope.EqrSlope.{EqrSlope}
+use Rattle.newton.specs.declared.slope.NpcSlope.{NpcSlope}
 use Rattle.newton.specs.declared.slope.Slope.{Slope}
 use Rattle.newton.specs.declared.slope.Slope.TheVariants.{Equatorial, Polar}
 
@@ -61,11 +63,18 @@ f_over_df_npc z cone lon cte direction =
 unfoldable pub have_same_sign : Float → Float → Bool
 have_same_sign d1 d2 = eq d1 plus_zero || eq d2 plus_zero || beq (lt plus_zero d1) (lt plus_zero d2)
 
+-- in the equatorial region, and in the north cap
+abbrev pub equatorial : Cone → Float → Slope
+equatorial cone cte = Equatorial (record { cone = cone; cte = cte })
+
+abbrev pub polar : Cone → Float → Float → Float → Slope
+polar cone lon cte direction = Polar (record { cone = cone; lon = lon; cte = cte; direction = direction })
+
 -- the slope of either region at z, and its ratio to its derivative
 unfoldable pub slope_at : Slope → Float → Float
-slope_at (Equatorial cone cte) z = f_eqr z cone cte
-slope_at (Polar cone lon cte direction) z = f_npc z cone lon cte direction
+slope_at (Equatorial s) z = f_eqr z s.cone s.cte
+slope_at (Polar s) z = f_npc z s.cone s.lon s.cte s.direction
 
 unfoldable pub ratio_at : Slope → Float → Float
-ratio_at (Equatorial cone cte) z = f_over_df_eqr z cone cte
-ratio_at (Polar cone lon cte direction) z = f_over_df_npc z cone lon cte direction
+ratio_at (Equatorial s) z = f_over_df_eqr z s.cone s.cte
+ratio_at (Polar s) z = f_over_df_npc z s.cone s.lon s.cte s.direction

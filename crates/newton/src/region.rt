@@ -10,17 +10,14 @@ use angles::{EIGHTH_PI, QUARTER_PI};
 pub fn cte_eqr(north: bool) -> f64
     ensures { result ≡ cte_eqr north }
 {
-    if north {
-        -ONE_OVER_TRANSITION_Z * QUARTER_PI
-    } else {
-        ONE_OVER_TRANSITION_Z * QUARTER_PI
-    }
+    mirrored(north, ONE_OVER_TRANSITION_Z * QUARTER_PI)
 }
 
+#[tactic(auto, unfolding(crate::specs::Regions::cte_npc, crate::specs::Regions::mirrored_of))]
 pub fn cte_npc(north: bool) -> f64
     ensures { result ≡ cte_npc north }
 {
-    if north { -EIGHTH_PI } else { EIGHTH_PI }
+    mirrored(north, EIGHTH_PI)
 }
 
 pub fn direction(east: bool) -> f64

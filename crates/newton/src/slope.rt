@@ -16,18 +16,27 @@ pub struct Cone {
     pub r: f64,
 }
 
+// The slope in the equatorial region, less that of a special point.
+#[derive(Clone, Copy)]
+pub struct EqrSlope {
+    pub cone: Cone,
+    pub cte: f64,
+}
+
+// The slope in the north cap; lon is that of the centre.
+#[derive(Clone, Copy)]
+pub struct NpcSlope {
+    pub cone: Cone,
+    pub lon: f64,
+    pub cte: f64,
+    pub direction: f64,
+}
+
+// An enum, as no other regions can come and the same walk is taken over both.
 #[derive(Clone, Copy)]
 pub enum Slope {
-    Equatorial {
-        cone: Cone,
-        cte: f64,
-    },
-    Polar {
-        cone: Cone,
-        lon: f64,
-        cte: f64,
-        direction: f64,
-    },
+    Equatorial(EqrSlope),
+    Polar(NpcSlope),
 }
 
 // What slope and ratio of either region share, in the source's names; sqrt is its sqrt_d2_minus_n2.
@@ -82,47 +91,57 @@ impl Terms {
         self.q * (2.0 * z0 - 3.0 * self.qn)
             - self.n * (1.0 / self.w2 + self.dalphadz * self.dalphadz)
     }
+}
 
-    fn slope_npc(self, z: f64, lon: f64, cte: f64, direction: f64) -> f64
-        ensures { result ≡ slope_npc self z lon cte direction }
+impl EqrSlope {
+    #[tactic(auto, unfolding(crate::specs::Slopes::f_eqr))]
+    pub fn f_eqr(self, z: f64) -> f64
+        ensures { result ≡ f_eqr z self.cone self.cte }
     {
-        let w = 1.0 - z;
-        let arccos = inverse::acos(self.n / root::root(self.d2));
-        direction * w * self.dalphadz - 0.5 * (direction * arccos + lon - QUARTER_PI) + cte
+        let t = self.cone.terms(z);
+        t.dalphadz - self.cte
+    }
+
+    #[tactic(auto, unfolding(crate::specs::Slopes::f_over_df_eqr))]
+    pub fn f_over_df_eqr(self, z: f64) -> f64
+        ensures { result ≡ f_over_df_eqr z self.cone self.cte }
+    {
+        let t = self.cone.terms(z);
+        let f = t.dalphadz - self.cte;
+        let df = t.second(self.cone.z0) / t.sqrt;
+        f / df
     }
 }
 
-pub fn f_eqr(z: f64, cone: Cone, cte: f64) -> f64
-    ensures { result ≡ f_eqr z cone cte }
-{
-    let t = cone.terms(z);
-    t.dalphadz - cte
-}
+impl NpcSlope {
+    #[tactic(auto, unfolding(crate::specs::Slopes::slope_npc))]
+    fn slope_npc(self, t: Terms, z: f64) -> f64
+        ensures { result ≡ slope_npc t z self.lon self.cte self.direction }
+    {
+        let w = 1.0 - z;
+        let arccos = inverse::acos(t.n / root::root(t.d2));
+        self.direction * w * t.dalphadz - 0.5 * (self.direction * arccos + self.lon - QUARTER_PI)
+            + self.cte
+    }
 
-pub fn f_over_df_eqr(z: f64, cone: Cone, cte: f64) -> f64
-    ensures { result ≡ f_over_df_eqr z cone cte }
-{
-    let t = cone.terms(z);
-    let f = t.dalphadz - cte;
-    let df = t.second(cone.z0) / t.sqrt;
-    f / df
-}
+    #[tactic(auto, unfolding(crate::specs::Slopes::f_npc))]
+    pub fn f_npc(self, z: f64) -> f64
+        ensures { result ≡ f_npc z self.cone self.lon self.cte self.direction }
+    {
+        self.slope_npc(self.cone.terms(z), z)
+    }
 
-pub fn f_npc(z: f64, cone: Cone, lon: f64, cte: f64, direction: f64) -> f64
-    ensures { result ≡ f_npc z cone lon cte direction }
-{
-    cone.terms(z).slope_npc(z, lon, cte, direction)
-}
-
-pub fn f_over_df_npc(z: f64, cone: Cone, lon: f64, cte: f64, direction: f64) -> f64
-    ensures { result ≡ f_over_df_npc z cone lon cte direction }
-{
-    let t = cone.terms(z);
-    let f = t.slope_npc(z, lon, cte, direction);
-    let w = 1.0 - z;
-    let df = -ONE_OVER_TRANSITION_Z * direction * t.dalphadz
-        + (direction * w / t.sqrt) * t.second(cone.z0);
-    f / df
+    #[tactic(auto, unfolding(crate::specs::Slopes::f_over_df_npc))]
+    pub fn f_over_df_npc(self, z: f64) -> f64
+        ensures { result ≡ f_over_df_npc z self.cone self.lon self.cte self.direction }
+    {
+        let t = self.cone.terms(z);
+        let f = self.slope_npc(t, z);
+        let w = 1.0 - z;
+        let df = -ONE_OVER_TRANSITION_Z * self.direction * t.dalphadz
+            + (self.direction * w / t.sqrt) * t.second(self.cone.z0);
+        f / df
+    }
 }
 
 // A zero has the sign of either.
@@ -133,31 +152,23 @@ pub fn have_same_sign(d1: f64, d2: f64) -> bool
 }
 
 impl Slope {
+    #[tactic(auto, unfolding(crate::specs::Slopes::slope_at))]
     pub fn slope(self, z: f64) -> f64
         ensures { result ≡ slope_at self z }
     {
         match self {
-            Slope::Equatorial { cone, cte } => f_eqr(z, cone, cte),
-            Slope::Polar {
-                cone,
-                lon,
-                cte,
-                direction,
-            } => f_npc(z, cone, lon, cte, direction),
+            Slope::Equatorial(s) => s.f_eqr(z),
+            Slope::Polar(s) => s.f_npc(z),
         }
     }
 
+    #[tactic(auto, unfolding(crate::specs::Slopes::ratio_at))]
     pub fn ratio(self, z: f64) -> f64
         ensures { result ≡ ratio_at self z }
     {
         match self {
-            Slope::Equatorial { cone, cte } => f_over_df_eqr(z, cone, cte),
-            Slope::Polar {
-                cone,
-                lon,
-                cte,
-                direction,
-            } => f_over_df_npc(z, cone, lon, cte, direction),
+            Slope::Equatorial(s) => s.f_over_df_eqr(z),
+            Slope::Polar(s) => s.f_over_df_npc(z),
         }
     }
 }

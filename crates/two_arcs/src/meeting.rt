@@ -7,10 +7,9 @@ use super::edge::Edge;
 use coo3d::vect3;
 use coo3d::vect3::Vect3;
 
-// A vector; neither candidate passes; there is no candidate.
-#[derive(Clone, Copy)]
-pub enum Meeting {
-    At(Vect3),
+// Why there is no crossing: neither candidate passes, or there is no candidate.
+#[derive(Clone, Copy, Debug, PartialEq, Eq)]
+pub enum NoMeeting {
     Nowhere,
     NoCandidate,
 }
@@ -21,18 +20,15 @@ fn passes_both(a: Edge, b: Edge, v: Vect3) -> bool
     a.passes(v) & b.passes(v)
 }
 
-fn first_that_passes(a: Edge, b: Edge, v: Vect3) -> Meeting
+// A candidate or its opposite.
+fn first_that_passes(a: Edge, b: Edge, v: Vect3) -> Option<Vect3>
     ensures { result ≡ first_that_passes a b v }
 {
     if passes_both(a, b, v) {
-        return Meeting::At(v);
+        return Some(v);
     }
     let w = v.opposite();
-    if passes_both(a, b, w) {
-        Meeting::At(w)
-    } else {
-        Meeting::Nowhere
-    }
+    if passes_both(a, b, w) { Some(w) } else { None }
 }
 
 fn zero_or_nan(norm: f64) -> bool
@@ -41,15 +37,15 @@ fn zero_or_nan(norm: f64) -> bool
     (norm == 0.0) | (norm != norm)
 }
 
-pub fn intersect_arcs(a: Edge, b: Edge) -> Meeting
+#[tactic(auto, unfolding(crate::specs::TwoArcs::intersect_arcs, crate::specs::TwoArcs::cross_of_arcs, coo3d::specs::Vectors::normalized_of))]
+pub fn intersect_arcs(a: Edge, b: Edge) -> Result<Vect3, NoMeeting>
     ensures { result ≡ intersect_arcs a b }
 {
     let cross = vect3::cross_product(a.cross(), b.cross());
     // The candidate is `cross.normalized()`, by the norm that is here already.
     let norm = cross.norm();
     if zero_or_nan(norm) {
-        Meeting::NoCandidate
-    } else {
-        first_that_passes(a, b, cross.divided_by(norm))
+        return Err(NoMeeting::NoCandidate);
     }
+    first_that_passes(a, b, cross.divided_by(norm)).ok_or(NoMeeting::Nowhere)
 }

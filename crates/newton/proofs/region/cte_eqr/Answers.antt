@@ -1,11 +1,15 @@
--- Each return is the branch of `cte_eqr` that the tests chose.
-use Rattle.newton.specs.Regions.{cte_eqr}
+-- Both constants, computed.
+use Rattle.std.proofs.Common.{◌≡◌, Bool, true, false, refl, ◌∙◌}
+use Rattle.std.specs.Float.Ieee.{mul, neg, of_bits}
+use Rattle.angles.specs.Floats.{◌⊗◌}
+use Rattle.angles.specs.Constants.{one_over_transition_z, quarter_pi}
+use Rattle.newton.specs.Regions.{cte_eqr, mirrored_of}
 use Rattle.newton.proofs.region.cte_eqr.Goals as goal
 
-pub returns-then-north : goal.returns-then-north
-unfolding cte_eqr
-returns-then-north c = simp c.if-north.true
+cte_mirrored : (north : Bool) → mirrored_of north (one_over_transition_z ⊗ quarter_pi) ≡ cte_eqr north
+unfolding cte_eqr mirrored_of mul neg of_bits
+cte_mirrored true = refl
+cte_mirrored false = refl
 
-pub returns-else-north : goal.returns-else-north
-unfolding cte_eqr
-returns-else-north c = simp c.if-north.false
+pub returns : goal.returns
+returns c = c.mirrored.ensures ∙ cte_mirrored c.args.north
