@@ -2,10 +2,9 @@
 use lib.ListN.{length, length-append}
 use mathlib.Core.Path.{◌≡◌}
 use Rattle.words.proofs.Lengths.{length_float}
-use Rattle.answers.specs.Bytes.{height_bytes, walked_bytes, point_bytes, cone_bytes, slot_bytes, slots_bytes, crossing_bytes}
+use Rattle.answers.specs.Bytes.{height_bytes, walked_bytes, point_bytes, cone_bytes, slot_bytes, Slots, slots_bytes, crossing_bytes}
 use Rattle.answers.specs.declared.answer.Answer.{Answer}
 use Rattle.answers.specs.declared.answer.Slot.{Slot}
-use Rattle.answers.specs.declared.answer.Slots.{Slots}
 
 pub length_cone : (s : Slot) → length (cone_bytes s) ≡ 10
 unfolding cone_bytes height_bytes

@@ -1,12 +1,13 @@
 -- Document 01, "Jobs and replies": the kinds, and which floats stand with them. Definitions only.
-use Rattle.std.specs.Prelude.{Float, ℕ}
+use Rattle.std.specs.Prelude.{Float, ℕ, Ok, Err}
 use Rattle.angles.specs.Floats.{plus_zero}
 use Rattle.coo3d.specs.LonLats.{lon_lat_of}
-use Rattle.crossing.specs.declared.parallel.Crossing.{Crossing}
-use Rattle.crossing.specs.declared.parallel.Crossing.TheVariants as crossing
+use Rattle.crossing.specs.Parallels.{Crossing}
+use Rattle.crossing.specs.declared.parallel.NoCrossing.TheVariants as crossing
 use Rattle.answers.specs.declared.answer.Answer.{Answer}
 use Rattle.answers.specs.declared.answer.Answer.TheVariants.{NoPiece, NoWalk, Rejected, Found, Height, NotBetween, NoRoot}
 use Rattle.answers.specs.declared.answer.Slot.{Slot}
+use Rattle.answers.specs.declared.answer.Numbers.{Numbers}
 
 abbrev pub slot_of : ℕ → Answer → Slot
 slot_of n a = record { steps = n; answer = a }
@@ -16,11 +17,6 @@ unfoldable pub without_walk : Answer → Slot
 without_walk a = slot_of 0 a
 
 -- the kind and the floats of a reply; a cone's has the first alone
-pub record Numbers : Type 0 where
-  pub kind : ℕ
-  pub first : Float
-  pub second : Float
-
 abbrev pub numbers : ℕ → Float → Float → Numbers
 numbers k a b = record { kind = k; first = a; second = b }
 
@@ -41,6 +37,6 @@ numbers_of NoRoot = kind_alone 5
 
 -- a crossing's answer: a vector is replied through `UnitVect3::lonlat`
 unfoldable pub crossed_of : Crossing → Answer
-crossed_of (crossing.At v) = let p = lon_lat_of v.x v.y v.z in Found p.lon p.lat
-crossed_of crossing.NotBetween = NotBetween
-crossed_of crossing.NoRoot = NoRoot
+crossed_of (Ok v) = let p = lon_lat_of v.x v.y v.z in Found p.lon p.lat
+crossed_of (Err crossing.NotBetween) = NotBetween
+crossed_of (Err crossing.NoRoot) = NoRoot

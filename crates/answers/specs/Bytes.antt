@@ -3,7 +3,8 @@ use Rattle.std.specs.Prelude.{Float, ℕ, List, ◌∷◌, ◌++◌}
 use Rattle.answers.specs.Answers.{numbers_of}
 use Rattle.answers.specs.declared.answer.Answer.{Answer}
 use Rattle.answers.specs.declared.answer.Slot.{Slot}
-use Rattle.answers.specs.declared.answer.Slots.{Slots}
+use Rattle.coo3d.specs.declared.regions.Cap.{Cap}
+use Rattle.coo3d.specs.declared.regions.Regions.{Regions}
 use Rattle.words.specs.Words.{float_bytes}
 
 -- kind, steps, one byte each, and a float
@@ -25,6 +26,10 @@ cone_bytes s = let n = numbers_of s.answer in height_bytes n.kind s.steps n.firs
 -- a slot: kind, steps, lon, lat
 unfoldable pub slot_bytes : Slot → List ℕ
 slot_bytes s = let n = numbers_of s.answer in walked_bytes n.kind s.steps n.first n.second
+
+-- the five slots of an arc
+abbrev pub Slots : Type 0
+Slots = Regions (Cap Slot) Slot
 
 -- south cap first and second, equator, north cap first and second
 unfoldable pub slots_bytes : Slots → List ℕ

@@ -3,7 +3,7 @@
 ghost use Rattle.std.specs.Prelude.{◌≡◌, length};
 ghost use Rattle.answers.specs.Bytes.{point_bytes, crossing_bytes};
 
-use super::answer::Answer;
+use super::answer::{Answer, Numbers};
 use words::output;
 
 // Kind, and two floats.
@@ -16,18 +16,11 @@ fn put_point(out: &mut [u8], kind: u8, lon: f64, lat: f64)
     output::put_float(&mut out[9..17], lat);
 }
 
+#[tactic(auto, unfolding(crate::specs::Bytes::crossing_bytes))]
 pub fn put_crossing(answer: Answer, out: &mut [u8])
     requires { length out.old ≡ 17 }
     ensures { out.new ≡ crossing_bytes answer }
 {
-    // A parallel is `Found`, `NotBetween` or `NoRoot`, and so are two arcs; the other cases have the bytes of `numbers_of` all the same.
-    match answer {
-        Answer::NoPiece => put_point(out, 0, 0.0, 0.0),
-        Answer::NoWalk => put_point(out, 1, 0.0, 0.0),
-        Answer::Rejected => put_point(out, 2, 0.0, 0.0),
-        Answer::Found { lon, lat } => put_point(out, 3, lon, lat),
-        Answer::Height { z } => put_point(out, 3, z, 0.0),
-        Answer::NotBetween => put_point(out, 4, 0.0, 0.0),
-        Answer::NoRoot => put_point(out, 5, 0.0, 0.0),
-    }
+    let n = Numbers::from(answer);
+    put_point(out, n.kind, n.first, n.second);
 }

@@ -5,4 +5,5 @@
 pub mod lonlat;
 pub mod point;
 pub mod quarter;
+pub mod regions;
 pub mod vect3;
