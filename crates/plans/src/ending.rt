@@ -4,7 +4,6 @@ ghost use Rattle.std.specs.Prelude.{◌≡◌};
 ghost use Rattle.plans.specs.Endings.{accepted_eqr, from_end_to_end, accepted_npc, eqr_arc, pc_arc, eqr_cone, pc_cone, answer_at};
 
 use angles::float;
-use answers::answer;
 use answers::answer::Answer;
 use coo3d::point::Coo3D;
 use coo3d::vect3::Vect3;
@@ -22,6 +21,7 @@ pub struct CapArc {
     pub z2: f64,
 }
 
+// An enum, and no closure, as a plan is a value: what two allowances have to do with it is said of the same plan.
 #[derive(Clone, Copy)]
 pub enum Ending {
     EqrArc(GreatArc),
@@ -52,7 +52,7 @@ fn eqr_arc(arc: GreatArc, z: f64) -> Answer
     ensures { result ≡ eqr_arc arc z }
 {
     if accepted_eqr(z) & from_end_to_end(arc.p1.z, z, arc.p2.z) {
-        answer::crossed(arc.crossing(z))
+        Answer::from(arc.crossing(z))
     } else {
         Answer::Rejected
     }
@@ -63,7 +63,7 @@ fn pc_arc(arc: CapArc, z: f64) -> Answer
 {
     if accepted_npc(z) & parallel::strictly_between(arc.z1, z, arc.z2) {
         let height = region::mirrored(arc.south, z);
-        answer::crossed(parallel::intersect_parallel(arc.p1, arc.p2, height))
+        Answer::from(parallel::intersect_parallel(arc.p1, arc.p2, height))
     } else {
         Answer::Rejected
     }

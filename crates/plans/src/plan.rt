@@ -4,21 +4,23 @@ ghost use Rattle.std.specs.Prelude.{◌≡◌};
 ghost use Rattle.plans.specs.Plans.{slot_at, cap_slots_at};
 
 use super::ending::Ending;
-use answers::answer::{Answer, CapSlots, Slot};
+use answers::answer::{Answer, Slot};
+use coo3d::regions::Cap;
 use newton::walk::Start;
 
+// The precision and the allowance that a file has set.
+#[derive(Clone, Copy)]
+pub struct Settings {
+    pub precision: f64,
+    pub allowance: u8,
+}
+
+// Kinds 0 and 1 are answers as good as a walk's, so neither is a None or an Err.
 #[derive(Clone, Copy)]
 pub enum Plan {
     NoPiece,
     NoWalk,
     Begins { start: Start, ending: Ending },
-}
-
-// The plans of a cap's two slots.
-#[derive(Clone, Copy)]
-pub struct CapPlan {
-    pub first: Plan,
-    pub second: Plan,
 }
 
 impl Plan {
@@ -39,15 +41,14 @@ impl Plan {
     }
 }
 
-impl CapPlan {
-    pub fn slots(self, allowance: u8) -> CapSlots
-        ensures { result ≡ cap_slots_at allowance self }
-    {
-        let first = self.first;
-        let second = self.second;
-        CapSlots {
-            first: first.slot(allowance),
-            second: second.slot(allowance),
-        }
+#[tactic(auto, unfolding(crate::specs::Plans::cap_slots_at))]
+pub fn cap_slots(plans: Cap<Plan>, allowance: u8) -> Cap<Slot>
+    ensures { result ≡ cap_slots_at allowance plans }
+{
+    let first = plans.first;
+    let second = plans.second;
+    Cap {
+        first: first.slot(allowance),
+        second: second.slot(allowance),
     }
 }

@@ -6,7 +6,7 @@ pub returns-then-accepted_eqr-from_end_to_end : goal.returns-then-accepted_eqr-f
 unfolding eqr_arc
 returns-then-accepted_eqr-from_end_to_end c =
     simp (
-      ← c.crossed.ensures,
+      ← c.from.ensures,
       ← c.crossing.ensures,
       c.if-accepted_eqr-from_end_to_end.true,
       ← c.from_end_to_end.ensures,

@@ -6,7 +6,7 @@ pub returns-then-accepted_npc-strictly_between : goal.returns-then-accepted_npc-
 unfolding pc_arc
 returns-then-accepted_npc-strictly_between c =
     simp (
-      ← c.crossed.ensures,
+      ← c.from.ensures,
       ← c.intersect_parallel.ensures,
       ← c.mirrored-height.ensures,
       c.if-accepted_npc-strictly_between.true,
