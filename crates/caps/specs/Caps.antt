@@ -6,6 +6,7 @@ use Rattle.angles.specs.Constants.{pi}
 use Rattle.coo3d.specs.Vectors.{vect, cross_of, normalized_of, opposite_of}
 use Rattle.coo3d.specs.Points.{point_of, vect_of}
 use Rattle.coo3d.specs.Quarters.{quarter_of, lon_mod_half_pi}
+use Rattle.coo3d.specs.declared.regions.Cap.{Cap}
 use Rattle.coo3d.specs.declared.vect3.Vect3.{Vect3}
 use Rattle.coo3d.specs.declared.point.Coo3D.{Coo3D}
 use Rattle.newton.specs.Slopes.{have_same_sign}
@@ -13,7 +14,6 @@ use Rattle.plans.specs.Plans.{cap_plan}
 use Rattle.caps.specs.SameQuarter.{same_quarter_plan}
 use Rattle.plans.specs.declared.plan.Plan.{Plan}
 use Rattle.plans.specs.declared.plan.Plan.TheVariants.{NoPiece}
-use Rattle.plans.specs.declared.plan.CapPlan.{CapPlan}
 
 -- `intersect_point_pc`: where the arc in the plane with this normal meets the plane with the normal n, with the sign of the height z
 unfoldable pub intersect_point_pc : Float → Vect3 → Vect3 → Coo3D
@@ -53,7 +53,7 @@ piece_from_start z normal p precision =
     cond (lt start.lon p.lon) (same_quarter_plan start p precision) NoPiece
 
 -- the arc crosses longitude 0
-unfoldable pub plan_across_zero : Coo3D → Coo3D → Float → CapPlan
+unfoldable pub plan_across_zero : Coo3D → Coo3D → Float → Cap Plan
 plan_across_zero p1 p2 precision =
     let p2xp1 = normalized_of (cross_of (vect_of p2) (vect_of p1)) in
     cap_plan
@@ -61,7 +61,7 @@ plan_across_zero p1 p2 precision =
     (piece_to_larger_end p1.z p2xp1 p2 precision)
 
 -- it does not cross longitude 0
-unfoldable pub plan_within_turn : Coo3D → Coo3D → Float → CapPlan
+unfoldable pub plan_within_turn : Coo3D → Coo3D → Float → Cap Plan
 plan_within_turn p1 p2 precision =
     let p1xp2 = normalized_of (cross_of (vect_of p1) (vect_of p2)) in
     cap_plan
@@ -69,13 +69,13 @@ plan_within_turn p1 p2 precision =
     (piece_from_start p1.z p1xp2 p2 precision)
 
 -- a same-quarter arc uses the first slot
-unfoldable pub ordered_plan_in_pc : Coo3D → Coo3D → Float → CapPlan
+unfoldable pub ordered_plan_in_pc : Coo3D → Coo3D → Float → Cap Plan
 ordered_plan_in_pc p1 p2 precision =
     cond (eqb (quarter_of p1.lon) (quarter_of p2.lon))
     (cap_plan (same_quarter_plan p1 p2 precision) NoPiece)
     (cond (lt pi (p2.lon ⊖ p1.lon)) (plan_across_zero p1 p2 precision) (plan_within_turn p1 p2 precision))
 
 -- the end of the smaller longitude comes first
-unfoldable pub arc_plan_in_pc : Coo3D → Coo3D → Float → CapPlan
+unfoldable pub arc_plan_in_pc : Coo3D → Coo3D → Float → Cap Plan
 arc_plan_in_pc p1 p2 precision =
     cond (lt p2.lon p1.lon) (ordered_plan_in_pc p2 p1 precision) (ordered_plan_in_pc p1 p2 precision)

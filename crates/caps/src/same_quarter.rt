@@ -8,7 +8,7 @@ use coo3d::point::Coo3D;
 use coo3d::vect3::Vect3;
 use coo3d::{lonlat, quarter, vect3};
 use crossing::parallel;
-use newton::slope::{Cone, Slope};
+use newton::slope::{Cone, NpcSlope, Slope};
 use newton::walk::Start;
 use newton::{region, slope, walk};
 use plans::ending::{CapArc, Ending};
@@ -32,6 +32,7 @@ struct QuarterPiece {
 }
 
 // Of the normal of the plane through both, or of its opposite where the longitude is above π.
+#[tactic(auto, unfolding(crate::specs::SameQuarter::center_of))]
 fn cone_center(v1: Vect3, v2: Vect3) -> Center
     ensures { result ≡ center_of v1 v2 }
 {
@@ -49,6 +50,7 @@ fn cone_center(v1: Vect3, v2: Vect3) -> Center
 }
 
 // A longitude that ends a piece: the end of a quarter is π/2, and not the 0 of the next.
+#[tactic(auto, unfolding(crate::specs::SameQuarter::end_lon))]
 fn end_lon(lon: f64) -> f64
     ensures { result ≡ end_lon lon }
 {
@@ -58,19 +60,19 @@ fn end_lon(lon: f64) -> f64
 fn piece(v1: Coo3D, v2: Coo3D) -> QuarterPiece
     ensures { result ≡ quarter_piece v1 v2 }
 {
-    let center = cone_center(v1.vect(), v2.vect());
+    let center = cone_center(Vect3::from(v1), Vect3::from(v2));
     let north = center.z < 0.0;
     let east = ((v1.lat > v2.lat) ^ (v1.lon > v2.lon)) ^ !north;
     let mean = 0.5 * (v1.z + v2.z);
     let south = mean < 0.0;
     QuarterPiece {
         south,
-        slope: Slope::Polar {
+        slope: Slope::Polar(NpcSlope {
             cone: Cone::new(region::mirrored(south, center.z), 0.0),
             lon: center.lon,
             cte: region::cte_npc(north ^ south),
             direction: region::direction(east),
-        },
+        }),
         z: region::mirrored(south, mean),
         z1: region::mirrored(south, v1.z),
         z2: region::mirrored(south, v2.z),
@@ -79,6 +81,7 @@ fn piece(v1: Coo3D, v2: Coo3D) -> QuarterPiece
 
 impl QuarterPiece {
     // One Newton step from the middle; where that leaves the piece, from the second end, and then from the first.
+    #[tactic(auto, unfolding(crate::specs::SameQuarter::starting_choice))]
     fn start(self) -> f64
         ensures { result ≡ starting_choice self }
     {
@@ -94,6 +97,7 @@ impl QuarterPiece {
         self.z1 - s.ratio(self.z1)
     }
 
+    #[tactic(auto, unfolding(crate::specs::SameQuarter::piece_plan))]
     fn plan(self, p1: Vect3, p2: Vect3, precision: f64) -> Plan
         ensures { result ≡ piece_plan self p1 p2 precision }
     {
@@ -118,6 +122,7 @@ impl QuarterPiece {
     }
 }
 
+#[tactic(auto, unfolding(crate::specs::SameQuarter::same_quarter_plan))]
 pub fn same_quarter_plan(p1: Coo3D, p2: Coo3D, precision: f64) -> Plan
     ensures { result ≡ same_quarter_plan p1 p2 precision }
 {
@@ -126,5 +131,5 @@ pub fn same_quarter_plan(p1: Coo3D, p2: Coo3D, precision: f64) -> Plan
     }
     let v1 = Coo3D::from_sph_coo(quarter::lon_mod_half_pi(p1.lon), p1.lat);
     let v2 = Coo3D::from_sph_coo(end_lon(quarter::lon_mod_half_pi(p2.lon)), p2.lat);
-    piece(v1, v2).plan(p1.vect(), p2.vect(), precision)
+    piece(v1, v2).plan(Vect3::from(p1), Vect3::from(p2), precision)
 }

@@ -15,6 +15,6 @@ returns c =
       ← c.new.ensures,
       ← c.mirrored.ensures,
       ← c.cone_center-center.ensures,
-      ← c.vect-2.ensures,
-      ← c.vect.ensures,
+      ← c.from-2.ensures,
+      ← c.from.ensures,
     )
