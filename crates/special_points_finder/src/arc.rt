@@ -6,63 +6,53 @@ ghost use Rattle.plans.specs.Plans.{slot_at, cap_slots_at};
 ghost use Rattle.special_points_finder.specs.Arcs.{plan_in_pc, plan_in_eqr, arc_plan, slots_at, arc_at};
 
 use super::equator;
-use answers::answer::{Answer, CapSlots, Slot, Slots};
+use answers::answer::{Answer, Slot, Slots};
 use caps::cap;
 use coo3d::point::Coo3D;
+use coo3d::regions::{Cap, Regions};
+use plans::plan::Settings;
 use splits::split;
-use splits::split::{Piece, Regions, Split};
+use splits::split::{Piece, Pieces, Unsplit};
 
-// Unsplit is document 01's status 10.
-#[derive(Clone, Copy)]
-pub enum ArcAnswer {
-    Slots(Slots),
-    Unsplit,
-}
-
-fn slots_in_pc(piece: Piece, precision: f64, allowance: u8) -> CapSlots
-    ensures { result ≡ cap_slots_at allowance (plan_in_pc piece precision) }
+#[tactic(auto, unfolding(crate::specs::Arcs::plan_in_pc, plans::specs::Plans::cap_slots_at, plans::specs::Plans::slot_at))]
+fn slots_in_pc(piece: Option<Piece>, settings: Settings) -> Cap<Slot>
+    ensures { result ≡ cap_slots_at settings.allowance (plan_in_pc piece settings.precision) }
 {
     match piece {
-        Piece::Nothing => CapSlots {
+        None => Cap {
             first: Slot::without_walk(Answer::NoPiece),
             second: Slot::without_walk(Answer::NoPiece),
         },
-        Piece::Between { from, to } => {
-            cap::arc_special_point_in_pc(from, to, precision, allowance)
-        }
+        Some(p) => cap::arc_special_point_in_pc(p.from, p.to, settings),
     }
 }
 
-fn slot_in_eqr(piece: Piece, precision: f64, allowance: u8) -> Slot
-    ensures { result ≡ slot_at allowance (plan_in_eqr piece precision) }
+#[tactic(auto, unfolding(crate::specs::Arcs::plan_in_eqr, plans::specs::Plans::slot_at))]
+fn slot_in_eqr(piece: Option<Piece>, settings: Settings) -> Slot
+    ensures { result ≡ slot_at settings.allowance (plan_in_eqr piece settings.precision) }
 {
     match piece {
-        Piece::Nothing => Slot::without_walk(Answer::NoPiece),
-        Piece::Between { from, to } => {
-            equator::arc_special_point_in_eqr(from, to, precision, allowance)
-        }
+        None => Slot::without_walk(Answer::NoPiece),
+        Some(p) => equator::arc_special_point_in_eqr(p.from, p.to, settings),
     }
 }
 
-fn slots(regions: Regions, precision: f64, allowance: u8) -> Slots
-    ensures { result ≡ slots_at allowance (arc_plan regions precision) }
+#[tactic(auto, unfolding(crate::specs::Arcs::slots_at, crate::specs::Arcs::arc_plan))]
+fn slots(pieces: Pieces, settings: Settings) -> Slots
+    ensures { result ≡ slots_at settings.allowance (arc_plan pieces settings.precision) }
 {
-    let south = regions.south;
-    let equator = regions.equator;
-    let north = regions.north;
-    Slots {
-        south: slots_in_pc(south, precision, allowance),
-        equator: slot_in_eqr(equator, precision, allowance),
-        north: slots_in_pc(north, precision, allowance),
+    Regions {
+        south: slots_in_pc(pieces.south, settings),
+        equator: slot_in_eqr(pieces.equator, settings),
+        north: slots_in_pc(pieces.north, settings),
     }
 }
 
-pub fn arc_special_points(p1: Coo3D, p2: Coo3D, precision: f64, allowance: u8) -> ArcAnswer
-    ensures { result ≡ arc_at allowance (split_of p1 p2) precision }
+// `Unsplit` is document 01's status 10.
+#[tactic(auto, unfolding(crate::specs::Arcs::arc_at))]
+pub fn arc_special_points(p1: Coo3D, p2: Coo3D, settings: Settings) -> Result<Slots, Unsplit>
+    ensures { result ≡ arc_at settings.allowance (split_of p1 p2) settings.precision }
 {
-    let s = split::split_arc(p1, p2);
-    match s {
-        Split::Into(regions) => ArcAnswer::Slots(slots(regions, precision, allowance)),
-        Split::Failed => ArcAnswer::Unsplit,
-    }
+    let pieces = split::split_arc(p1, p2)?;
+    Ok(slots(pieces, settings))
 }

@@ -7,27 +7,30 @@ ghost use Rattle.plans.specs.Plans.{slot_at};
 use angles::float;
 use answers::answer::Slot;
 use coo3d::point::Coo3D;
+use coo3d::vect3::Vect3;
 use crossing::great_arc::GreatArc;
-use newton::slope::{Cone, Slope};
+use newton::slope::{Cone, EqrSlope, Slope};
 use newton::walk::Start;
 use newton::{region, slope, walk};
 use plans::ending::Ending;
-use plans::plan::Plan;
+use plans::plan::{Plan, Settings};
 
 // The slope of the great circle whose normal has the height z0.
+#[tactic(auto, unfolding(crate::specs::Equator::slope_in_eqr))]
 fn slope_in_eqr(z0: f64) -> Slope
     ensures { result ≡ slope_in_eqr z0 }
 {
-    Slope::Equatorial {
+    Slope::Equatorial(EqrSlope {
         cone: Cone::new(z0, 0.0),
         cte: region::cte_eqr(z0 < 0.0),
-    }
+    })
 }
 
+#[tactic(auto, unfolding(crate::specs::Equator::arc_plan_in_eqr))]
 fn arc_plan_in_eqr(p1: Coo3D, p2: Coo3D, precision: f64) -> Plan
     ensures { result ≡ arc_plan_in_eqr p1 p2 precision }
 {
-    let arc = GreatArc::new(p1.vect(), p2.vect());
+    let arc = GreatArc::new(Vect3::from(p1), Vect3::from(p2));
     let s = slope_in_eqr(arc.normal.z);
     if slope::have_same_sign(s.slope(p1.z), s.slope(p2.z)) {
         return Plan::NoWalk;
@@ -42,8 +45,8 @@ fn arc_plan_in_eqr(p1: Coo3D, p2: Coo3D, precision: f64) -> Plan
     }
 }
 
-pub fn arc_special_point_in_eqr(p1: Coo3D, p2: Coo3D, precision: f64, allowance: u8) -> Slot
-    ensures { result ≡ slot_at allowance (arc_plan_in_eqr p1 p2 precision) }
+pub fn arc_special_point_in_eqr(p1: Coo3D, p2: Coo3D, settings: Settings) -> Slot
+    ensures { result ≡ slot_at settings.allowance (arc_plan_in_eqr p1 p2 settings.precision) }
 {
-    arc_plan_in_eqr(p1, p2, precision).slot(allowance)
+    arc_plan_in_eqr(p1, p2, settings.precision).slot(settings.allowance)
 }

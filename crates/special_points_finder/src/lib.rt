@@ -5,5 +5,7 @@
 #![tactic(auto)]
 
 pub mod arc;
-pub mod cone;
+mod cone;
+pub mod cone_in_eqr;
+pub mod cone_in_pc;
 mod equator;

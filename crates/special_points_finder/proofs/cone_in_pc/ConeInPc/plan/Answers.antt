@@ -1,7 +1,7 @@
 -- The callees' contracts give the values in `cone_plan_in_pc`.
 use mathlib.Core.Bool.{xor}
 use Rattle.special_points_finder.specs.Cones.{cone_plan_in_pc}
-use Rattle.special_points_finder.proofs.cone.cone_plan_in_pc.Goals as goal
+use Rattle.special_points_finder.proofs.cone_in_pc.ConeInPc.plan.Goals as goal
 
 pub returns : goal.returns
 unfolding cone_plan_in_pc xor
