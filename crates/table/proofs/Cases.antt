@@ -2,13 +2,16 @@
 use lib.Dec.{T}
 use lib.Ieee.Fits.{and_l, and_r}
 use lib.ListN.{get_or}
-use Prim.Native.Nat.{ℕ, zero, suc, ◌≤◌, ◌<◌}
-use native.Mathlib.Omega.{arith}
+use Prim.Native.Nat.{ℕ, zero, suc}
 use mathlib.Core.Path.{◌≡◌, refl}
 use mathlib.Core.Bool.{Bool, true, false, cond, ◌&&◌}
 use mathlib.Core.List.{List, [], ◌∷◌}
-use Rattle.table.specs.Rows.{Row}
+use Rattle.std.specs.Prelude.{Option, None, Some}
+use Rattle.table.specs.Refusals.{refusal_number}
+use Rattle.table.specs.Rows.{Row, Work, refused}
 use Rattle.table.specs.Table.{end, table, row_of}
+use Rattle.table.specs.Turns.{work_unless}
+use Rattle.table.specs.declared.refusal.Refusal.{Refusal}
 
 pub by_test : {A : Type 0} (P : A → Type 0) (b : Bool) {u v : A} → (b ≡ true → P u) → (b ≡ false → P v) → P (cond b u v)
 by_test P true p q = p refl
@@ -17,6 +20,15 @@ by_test P false p q = q refl
 pub either_way : {A : Type 0} (b : Bool) (x : A) → cond b x x ≡ x
 either_way true x = refl
 either_way false x = refl
+
+-- refused or not
+pub by_refusal : (P : Work → Type 0) (o : Option Refusal) {w : Work} → (o ≡ None → P w) → ((r : Refusal) → o ≡ Some r → P (refused r)) → P (work_unless o w)
+by_refusal P None p q = p refl
+by_refusal P (Some r) p q = q r refl
+
+abbrev pub number_or : Option Refusal → ℕ
+number_or None = 0
+number_or (Some r) = refusal_number r
 
 -- a fact of each row and its code
 abbrev pub Each : (ℕ → Row → Type 0) → List Row → Type 0
@@ -46,18 +58,3 @@ by_computing test a e code = at table a code
     at [] t n = e
     at (r ∷ rs) t zero = and_l (test r) (all test rs) t
     at (r ∷ rs) t (suc n) = at rs (and_r (test r) (all test rs) t) n
-
--- the last arm of a match on a code: it is none of those before, so the last
-abbrev pub Rest : ℕ → ℕ → Type 0
-Rest zero code = Unit {0}
-Rest (suc n) code = Rest n code × (code ≡ suc n → ⊥)
-
-next : {code k : ℕ} → k ≤ code → (code ≡ k → ⊥) → k < code
-next l ne = omega arith
-
-past : (n code : ℕ) → 1 ≤ code → Rest n code → n < code
-past zero code l r = l
-past (suc n) code l r = next (past n code l r.0) r.1
-
-pub last : (n code : ℕ) → 1 ≤ code → code < suc (suc n) → Rest n code → code ≡ suc n
-last n code l h r = let p = past n code l r in omega arith

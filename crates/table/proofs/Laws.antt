@@ -6,19 +6,21 @@ use mathlib.Core.Path.{◌≡◌, refl}
 use native.Mathlib.Omega.{arith}
 use mathlib.Core.Bool.{Bool, true, false, true≢false, and-false, ◌&&◌}
 use mathlib.Core.List.{List, []}
-use Rattle.two_arcs.specs.declared.meeting.Meeting.{Meeting}
-use Rattle.two_arcs.specs.declared.meeting.Meeting.TheVariants.{At, Nowhere, NoCandidate}
-use Rattle.splits.specs.declared.split.Split.{Split}
-use Rattle.splits.specs.declared.split.Split.TheVariants.{Into, Failed}
+use Rattle.std.specs.Prelude.{None, Some, Result, Ok, Err, is_some}
+use Rattle.coo3d.specs.declared.vect3.Vect3.{Vect3}
+use Rattle.two_arcs.specs.declared.meeting.NoMeeting.{NoMeeting}
+use Rattle.two_arcs.specs.declared.meeting.NoMeeting.TheVariants.{Nowhere, NoCandidate}
+use Rattle.splits.specs.Splits.{Split}
 use Rattle.table.specs.States.{Given, needs_settings, Change, keeps, sets_precision, sets_allowance}
+use Rattle.table.specs.declared.refusal.Refusal.TheVariants.{Unset}
 use Rattle.table.specs.Rows.{Form, no_answer, five_slots, kind_steps_z, kind_lon_lat, Row, Work, refused, accepted, slots, cone, crossing, needs_nothing}
 use Rattle.table.specs.Table.{arc_work, meeting_work, end, precision, allowance, arc, cone_in_eqr, cone_in_pc, parallel, two_arcs, row_of}
 use Rattle.table.specs.Turns.{refusal_of, work_of, status_in, plans_in}
-use Rattle.table.proofs.Cases.{by_row, by_test}
+use Rattle.table.proofs.Cases.{by_row, by_test, by_refusal, number_or}
 
 -- what a command comes to is answered in this form; a refused one in any
 abbrev pub HasForm : Form → Work → Type 0
-HasForm f (refused number) = Unit {0}
+HasForm f (refused refusal) = Unit {0}
 HasForm f accepted = f ≡ no_answer
 HasForm f (slots plan) = f ≡ five_slots
 HasForm f (cone plan) = f ≡ kind_steps_z
@@ -50,21 +52,24 @@ sets_an_allowance (sets_allowance n) = true
 pub record Law (code : ℕ) (r : Row) : Type 0 where
   pub has_form : (g : Given) (b : List ℕ) → HasForm r.answer (r.work g b)
   pub own_status : (g : Given) (b : List ℕ) → OwnStatus code (status_in (r.work g b))
-  pub low_needs : (g : Given) → r.needs g ≤ 9
-  pub settled : (g : Given) (b : List ℕ) → g.allowed ≡ false → r.needs g ≡ 0 → plans_in (r.work g b) ≡ []
+  pub low_needs : (g : Given) → number_or (r.needs g) ≤ 9
+  pub settled : (g : Given) (b : List ℕ) → g.allowed ≡ false → r.needs g ≡ None → plans_in (r.work g b) ≡ []
   pub keeps_allowance : eqb code 2 ≡ false → (b : List ℕ) → sets_an_allowance (r.change b) ≡ false
 
-low_nothing : (g : Given) → needs_nothing g ≤ 9
+low_nothing : (g : Given) → number_or (needs_nothing g) ≤ 9
 low_nothing g = omega arith
 
-low_settings : (g : Given) → needs_settings g ≤ 9
+low_settings : (g : Given) → number_or (needs_settings g) ≤ 9
 unfolding needs_settings
-low_settings g = by_test (λ (n : ℕ). n ≤ 9) (g.precise && g.allowed) (λ x. omega arith) (λ x. omega arith)
+low_settings g = by_test (λ o. number_or o ≤ 9) (is_some g.precision && g.allowed) (λ x. omega arith) (λ x. omega arith)
 
 -- settings that are needed and not there
-none_needed : {A : Type 0} (g : Given) → g.allowed ≡ false → needs_settings g ≡ 0 → A
+none_needed : {A : Type 0} (g : Given) → g.allowed ≡ false → needs_settings g ≡ None → A
 unfolding needs_settings
-none_needed g u e = let x : ◌≡◌ {A = ℕ} 6 0 = rw (u, and-false g.precise) at e in absurd (omega arith)
+none_needed g u e =
+    let x : Some Unset ≡ None = rw (u, and-false (is_some g.precision)) at e in
+    let z : ◌≡◌ {A = ℕ} 0 1 = cc in
+    absurd (omega arith)
 
 law_end : (code : ℕ) → Law code end
 unfolding status_in plans_in
@@ -101,13 +106,13 @@ law_allowance =
 
 form_arc : (s : Split) (p : Float) → HasForm five_slots (arc_work s p)
 unfolding arc_work
-form_arc (Into r) p = refl
-form_arc Failed p = tt
+form_arc (Ok r) p = refl
+form_arc (Err e) p = tt
 
 status_arc : (s : Split) (p : Float) → OwnStatus 3 (status_in (arc_work s p))
 unfolding arc_work status_in
-status_arc (Into r) p = none
-status_arc Failed p = ten
+status_arc (Ok r) p = none
+status_arc (Err e) p = ten
 
 law_arc : Law 3 arc
 unfolding arc
@@ -153,23 +158,23 @@ law_parallel =
       keeps_allowance = λ e b. refl;
     }
 
-form_meeting : (m : Meeting) → HasForm kind_lon_lat (meeting_work m)
+form_meeting : (m : Result Vect3 NoMeeting) → HasForm kind_lon_lat (meeting_work m)
 unfolding meeting_work
-form_meeting (At v) = refl
-form_meeting Nowhere = refl
-form_meeting NoCandidate = tt
+form_meeting (Ok v) = refl
+form_meeting (Err Nowhere) = refl
+form_meeting (Err NoCandidate) = tt
 
-status_meeting : (m : Meeting) → OwnStatus 7 (status_in (meeting_work m))
+status_meeting : (m : Result Vect3 NoMeeting) → OwnStatus 7 (status_in (meeting_work m))
 unfolding meeting_work status_in
-status_meeting (At v) = none
-status_meeting Nowhere = none
-status_meeting NoCandidate = twelve
+status_meeting (Ok v) = none
+status_meeting (Err Nowhere) = none
+status_meeting (Err NoCandidate) = twelve
 
-pub no_walk_meeting : (m : Meeting) → plans_in (meeting_work m) ≡ []
+pub no_walk_meeting : (m : Result Vect3 NoMeeting) → plans_in (meeting_work m) ≡ []
 unfolding meeting_work plans_in
-no_walk_meeting (At v) = refl
-no_walk_meeting Nowhere = refl
-no_walk_meeting NoCandidate = refl
+no_walk_meeting (Ok v) = refl
+no_walk_meeting (Err Nowhere) = refl
+no_walk_meeting (Err NoCandidate) = refl
 
 law_two_arcs : Law 7 two_arcs
 unfolding two_arcs
@@ -192,4 +197,5 @@ law =
 -- refused or not
 pub form_of : (code : ℕ) (g : Given) (b : List ℕ) → HasForm (row_of code).answer (work_of (row_of code) g b)
 unfolding work_of
-form_of code g b = by_test (HasForm (row_of code).answer) (eqb (refusal_of (row_of code) g b) 0) (λ e. (law code).has_form g b) (λ e. tt)
+form_of code g b =
+    by_refusal (HasForm (row_of code).answer) (refusal_of (row_of code) g b) (λ e. (law code).has_form g b) (λ r e. tt)

@@ -1,5 +1,4 @@
 pub mod Cases
-pub mod Widths
 pub mod Laws
 pub mod ReplyLengths
 pub mod CommandAllowances

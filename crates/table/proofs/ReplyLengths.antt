@@ -5,7 +5,7 @@ use native.Mathlib.Omega.{arith}
 use mathlib.Core.Path.{refl}
 use mathlib.Core.List.{List}
 use Rattle.answers.proofs.AnswerLengths.{length_cone, length_slots, length_crossing}
-use Rattle.table.specs.States.{given_of}
+use Rattle.table.specs.States.{given_of, most_steps}
 use Rattle.table.specs.Rows.{Form, Work, refused, accepted, slots, cone, crossing}
 use Rattle.table.specs.Table.{row_of, answer_width}
 use Rattle.table.specs.Turns.{work_of, reply_in, turn_of, answer_bytes, Fits, reply_bytes, reply_of, ReplyLength}
@@ -14,7 +14,7 @@ use Rattle.table.proofs.Laws.{HasForm, form_of}
 
 fits : (f : Form) (n : ℕ) (w : Work) → HasForm f w → Fits (reply_in n w) f.width
 unfolding reply_in answer_bytes
-fits f n (refused number) h = length-replicate f.width 0
+fits f n (refused refusal) h = length-replicate f.width 0
 fits f n accepted h = rw h refl
 fits f n (slots plan) h = rw h (length_slots _)
 fits f n (cone plan) h = rw h (length_cone _)
@@ -26,7 +26,7 @@ module _ (s : State) (code : ℕ) (b : List ℕ) where
   reply_fits =
       let r = row_of code in
       let g = given_of s in
-      fits r.answer s.allowance (work_of r g b) (form_of code g b)
+      fits r.answer (most_steps s.allowance) (work_of r g b) (form_of code g b)
 
 pub length_reply : ReplyLength
 unfolding reply_of reply_bytes

@@ -1,20 +1,18 @@
 -- Status 10 comes exactly on its condition: `StatusTen` (specs/StatusTen.antt). None of 6 to 9 is 10, and no row but that of arcs has it. The
 -- ends of an arc that 9 lets through have heights that are numbers (crate coo3d), so its split fails exactly at kind 5 (crate splits).
-use lib.Dec.{eqb}
 use lib.Ieee.{Float}
-use borrow.Author.Tests.{eqb-false}
 use Prim.Native.Nat.{ℕ}
 use native.Mathlib.Omega.{arith}
 use mathlib.Core.Path.{◌≡◌, refl, ◌∙◌}
 use mathlib.Core.Logic.{◌↔◌}
-use mathlib.Core.Bool.{Bool, true, false, cond, not, ◌&&◌, and-eq-true_iff}
+use mathlib.Core.Bool.{Bool, true, false, ◌&&◌, and-eq-true_iff}
 use mathlib.Core.List.{List}
 use Rattle.coo3d.specs.LonLats.{is_longitude, is_latitude}
 use Rattle.coo3d.proofs.Heights.{height_is_number}
 use Rattle.words.specs.Words.{float_at}
-use Rattle.splits.specs.Splits.{split_of, lower_end, upper_end, CrossingOfKind5}
-use Rattle.splits.specs.declared.split.Split.{Split}
-use Rattle.splits.specs.declared.split.Split.TheVariants.{Into, Failed}
+use Rattle.std.specs.Prelude.{Option, None, Some, Ok, Err}
+use Rattle.splits.specs.Splits.{unsplit, Split, split_of, lower_end, upper_end, CrossingOfKind5}
+use Rattle.table.specs.declared.refusal.Refusal.{Refusal}
 use Rattle.splits.proofs.Splits.{fails_at_kind_5}
 use Rattle.table.specs.States.{Given, given_of}
 use Rattle.table.specs.Table.{first_end, second_end, arc_work, arc, row_of}
@@ -25,18 +23,15 @@ use Rattle.table.proofs.Laws.{code_of_ten, law}
 use Rattle.table.proofs.Statuses.{of_own, past_nine}
 
 -- ---- an arc that is not refused has its ends in range
-in_range : (needs : ℕ) (finite flags ranged : Bool) → first_failing needs finite flags ranged ≡ 0 → ranged ≡ true
+in_range : (needs : Option Refusal) (finite flags ranged : Bool) → first_failing needs finite flags ranged ≡ None → ranged ≡ true
 unfolding first_failing
-in_range needs finite flags ranged h = by (eqb needs 0) finite flags ranged refl h
-  where
-    by : (x f g r : Bool) → eqb needs 0 ≡ x → cond x (cond (not f) 7 (cond (not g) 8 (cond (not r) 9 0))) needs ≡ 0 → r ≡ true
-    by true true true true e h = refl
-    by true true true false e h = absurd (omega arith)
-    by true true false r e h = absurd (omega arith)
-    by true false g r e h = absurd (omega arith)
-    by false f g r e h = absurd (eqb-false needs 0 e h)
+in_range (Some refusal) f g r h = let z : ◌≡◌ {A = ℕ} 0 1 = cc in absurd (omega arith)
+in_range None false g r h = let z : ◌≡◌ {A = ℕ} 0 1 = cc in absurd (omega arith)
+in_range None true false r h = let z : ◌≡◌ {A = ℕ} 0 1 = cc in absurd (omega arith)
+in_range None true true false h = let z : ◌≡◌ {A = ℕ} 0 1 = cc in absurd (omega arith)
+in_range None true true true h = refl
 
-module _ (g : Given) (b : List ℕ) (n : refusal_of arc g b ≡ 0) where
+module _ (g : Given) (b : List ℕ) (n : refusal_of arc g b ≡ None) where
   latitudes : (is_latitude (float_at b 1) ≡ true) × (is_latitude (float_at b 3) ≡ true)
   unfolding refusal_of in_range_from arc
   latitudes =
@@ -47,23 +42,23 @@ module _ (g : Given) (b : List ℕ) (n : refusal_of arc g b ≡ 0) where
       let all = (and-eq-true_iff (lon1 && lat1 && lon2) lat2).0 (in_range _ _ _ _ n) in
       (((and-eq-true_iff lon1 lat1).0 ((and-eq-true_iff (lon1 && lat1) lon2).0 all.0).0).1, all.1)
 
-  arc_fails : (split_of (first_end b) (second_end b) ≡ Failed)
+  arc_fails : (split_of (first_end b) (second_end b) ≡ Err unsplit)
       ↔ CrossingOfKind5 (lower_end (first_end b) (second_end b)) (upper_end (first_end b) (second_end b))
   arc_fails =
       fails_at_kind_5 (first_end b) (second_end b)
       (height_is_number (float_at b 0) (float_at b 1) latitudes.0)
       (height_is_number (float_at b 2) (float_at b 3) latitudes.1)
 
-unsplit : (s : Split) (p : Float) → status_in (arc_work s p) ≡ 10 → s ≡ Failed
+not_split : (s : Split) (p : Float) → status_in (arc_work s p) ≡ 10 → s ≡ Err unsplit
 unfolding arc_work status_in
-unsplit (Into r) p h = absurd (omega arith)
-unsplit Failed p h = refl
+not_split (Ok r) p h = absurd (omega arith)
+not_split (Err e) p h = refl
 
 -- ---- both ways
-arc_of_ten : (s : State) (b : List ℕ) → refusal_of (row_of 3) (given_of s) b ≡ 0 → status_in ((row_of 3).work (given_of s) b) ≡ 10 → ArcAtKind5 s 3 b
+arc_of_ten : (s : State) (b : List ℕ) → refusal_of (row_of 3) (given_of s) b ≡ None → status_in ((row_of 3).work (given_of s) b) ≡ 10 → ArcAtKind5 s 3 b
 unfolding row_of arc
 arc_of_ten s b n h =
-    record { is_arc = refl; not_refused = n; kind_5 = (arc_fails (given_of s) b n).0 (unsplit _ _ h) }
+    record { is_arc = refl; not_refused = n; kind_5 = (arc_fails (given_of s) b n).0 (not_split _ _ h) }
 
 ten_of_arc : (s : State) (b : List ℕ) → ArcAtKind5 s 3 b → status_in ((row_of 3).work (given_of s) b) ≡ 10
 unfolding row_of arc arc_work status_in

@@ -12,7 +12,8 @@ use Rattle.answers.specs.Bytes.{height_bytes, walked_bytes, cone_bytes, slot_byt
 use Rattle.plans.specs.Plans.{slots_of, steps_of, steps_at, cap_slots_at}
 use Rattle.plans.specs.declared.plan.Plan.{Plan}
 use Rattle.special_points_finder.specs.Arcs.{ArcPlan, slots_at}
-use Rattle.table.specs.States.{given_of}
+use Rattle.table.specs.States.{given_of, most_steps}
+use Rattle.table.specs.declared.refusal.Refusal.{Refusal}
 use Rattle.table.specs.Rows.{Form, five_slots, kind_steps_z, kind_lon_lat, Work, refused, accepted, slots, cone, crossing}
 use Rattle.table.specs.Table.{precision, allowance, arc, cone_in_eqr, cone_in_pc, parallel, two_arcs, row_of, answer_width}
 use Rattle.table.specs.Turns.{work_of, reply_in, plans_in, turn_of, status_of, answer_bytes, reply_bytes, reply_of}
@@ -35,9 +36,9 @@ no_steps [] width i = refl
 no_steps (place ∷ places) width zero = zeros width place
 no_steps (place ∷ places) width (suc i) = no_steps places width i
 
-steps_refused : (f : Form) (code n number : ℕ) → Steps f code n (refused number)
+steps_refused : (f : Form) (code n : ℕ) (refusal : Refusal) → Steps f code n (refused refusal)
 unfolding reply_in plans_in reply_bytes status_of answer_bytes steps_of slots_of
-steps_refused f code n number = no_steps f.steps (answer_width code)
+steps_refused f code n refusal = no_steps f.steps (answer_width code)
 
 steps_accepted : (f : Form) (code n : ℕ) → Steps f code n accepted
 unfolding reply_in plans_in reply_bytes status_of answer_bytes steps_of slots_of
@@ -63,7 +64,7 @@ unfolding plans_in slots_of steps_of
 steps_crossing code n a i = refl
 
 steps_in : (f : Form) (code n : ℕ) (w : Work) → HasForm f w → Steps f code n w
-steps_in f code n (refused number) h = steps_refused f code n number
+steps_in f code n (refused refusal) h = steps_refused f code n refusal
 steps_in f code n accepted h = steps_accepted f code n
 steps_in f code n (slots p) h = rw h (steps_slots code n p)
 steps_in f code n (cone p) h = rw h (steps_cone code n p)
@@ -75,7 +76,7 @@ unfolding reply_of turn_of
 step_bytes_lem s code b =
     let r = row_of code in
     let g = given_of s in
-    steps_in r.answer code s.allowance (work_of r g b) (form_of code g b)
+    steps_in r.answer code (most_steps s.allowance) (work_of r g b) (form_of code g b)
 
 abbrev within : ℕ → List ℕ → Bool
 within width [] = true

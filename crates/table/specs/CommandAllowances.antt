@@ -1,8 +1,8 @@
 -- Document 01, "Walks": what two allowances have to do with one command, in two job files that are alike outside the operands of
 -- code 02. Definitions and claims; `proofs/CommandAllowances.antt` proves them.
-use Rattle.std.specs.Prelude.{eqb, get_or, ℕ, ◌≡◌, false, cond, List, [], ◌↔◌}
+use Rattle.std.specs.Prelude.{eqb, get_or, ℕ, ◌≡◌, cond, List, [], ◌↔◌, false, None, Some}
 use Rattle.plans.specs.PlanAllowances.{AllEqualOrEnd}
-use Rattle.table.specs.States.{given_of, set_to, allowance_of}
+use Rattle.table.specs.States.{given_of, most_steps}
 use Rattle.table.specs.Table.{row_of}
 use Rattle.table.specs.Turns.{refusal_of, work_of, reply_of, after, walks_of}
 use Rattle.table.specs.declared.state.State.{State}
@@ -23,7 +23,7 @@ pub record CommandInTwo (s t : State) (code : ℕ) (b d : List ℕ) : Type 0 whe
   pub same_walks : walks_of s code b ≡ walks_of t code d
   pub like_after : Like (after s code b) (after t code d)
   pub law :
-      (reply_of s code b ≡ reply_of t code d) ↔ AllEqualOrEnd s.allowance t.allowance (walks_of s code b)
+      (reply_of s code b ≡ reply_of t code d) ↔ AllEqualOrEnd (most_steps s.allowance) (most_steps t.allowance) (walks_of s code b)
 
 abbrev pub CommandAllowances : Type 0
 CommandAllowances =
@@ -32,8 +32,8 @@ CommandAllowances =
 -- A command of code 02 sets the allowance to its operand, and no other command changes it.
 abbrev pub AllowanceAfter : Type 0
 AllowanceAfter =
-    (s : State) (code : ℕ) (b : List ℕ) → allowance_of (after s code b) ≡ cond (eqb code 2) (set_to (get_or b 0 0)) (allowance_of s)
+    (s : State) (code : ℕ) (b : List ℕ) → (after s code b).allowance ≡ cond (eqb code 2) (Some (get_or b 0 0)) s.allowance
 
 -- Without an allowance a command begins no walk.
 abbrev pub NoneUnset : Type 0
-NoneUnset = (s : State) (code : ℕ) (b : List ℕ) → s.allowed ≡ false → walks_of s code b ≡ []
+NoneUnset = (s : State) (code : ℕ) (b : List ℕ) → s.allowance ≡ None → walks_of s code b ≡ []

@@ -1,3 +1,5 @@
+pub mod Codes
+pub mod Refusals
 pub mod States
 pub mod Rows
 pub mod Table

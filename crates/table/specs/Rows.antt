@@ -1,5 +1,5 @@
 -- What a row of the table of commands says (document 01, "Jobs and replies"). Definitions only; the rows stand in Table.antt.
-use Rattle.std.specs.Prelude.{leb, Float, ℕ, Bool, true, ◌&&◌, List, [], ◌∷◌}
+use Rattle.std.specs.Prelude.{leb, Float, ℕ, Bool, true, ◌&&◌, List, [], ◌∷◌, Option, None}
 use Rattle.std.specs.Float.Ieee.{neg, lt, le}
 use Rattle.angles.specs.Floats.{plus_zero, one}
 use Rattle.angles.specs.Constants.{two, half_pi}
@@ -7,6 +7,7 @@ use Rattle.answers.specs.declared.answer.Answer.{Answer}
 use Rattle.special_points_finder.specs.Arcs.{ArcPlan}
 use Rattle.plans.specs.declared.plan.Plan.{Plan}
 use Rattle.table.specs.States.{Given, Change}
+use Rattle.table.specs.declared.refusal.Refusal.{Refusal}
 
 -- 9: a longitude lies in [0, 2π), a latitude in [−π/2, π/2] (`is_longitude` and `is_latitude` of coo3d), z and z0 in [−1, 1], a radius in (0, 2],
 -- lon mod π/2 in [0, π/2)
@@ -32,7 +33,7 @@ any_byte b = true
 -- What a command comes to, before any walk and so without an allowance.
 pub data Work : Type 0 where
   -- refused: by 6 to 9 (`work_of`), or by its row, 10 or 12
-  refused : ℕ → Work
+  refused : Refusal → Work
   -- no answer after code and status
   accepted : Work
   -- five slots, by their plans
@@ -66,15 +67,15 @@ kind_steps_z = form 10 (1 ∷ [])
 abbrev pub kind_lon_lat : Form
 kind_lon_lat = form 17 []
 
--- A row: float operands, each with its range (9); byte operands after them, each with what 8 asks of it; the reply after code and status; the
--- number that refuses it by what is given (6), or 0; what it comes to, of what is given and the operands' bytes; and what it makes of the state.
+-- A row: float operands, each with its range (9); byte operands after them, each with what 8 asks of it; the reply after code and status; what
+-- refuses it by what is given (6), if anything does; what it comes to, of what is given and the operands' bytes; and what it makes of the state.
 pub record Row : Type 0 where
   pub floats : List (Float → Bool)
   pub flags : List (ℕ → Bool)
   pub answer : Form
-  pub needs : Given → ℕ
+  pub needs : Given → Option Refusal
   pub work : Given → List ℕ → Work
   pub change : List ℕ → Change
 
-abbrev pub needs_nothing : Given → ℕ
-needs_nothing g = 0
+abbrev pub needs_nothing : Given → Option Refusal
+needs_nothing g = None

@@ -1,6 +1,7 @@
 -- Document 01, "Jobs and replies": the step bytes of a reply. Definitions and claims; `proofs/Steps.antt` proves them.
 use Rattle.std.specs.Prelude.{get_or, drop, ℕ, ◌<◌, ◌≡◌, List, [], ◌∷◌}
 use Rattle.plans.specs.Plans.{slots_of, steps_at}
+use Rattle.table.specs.States.{most_steps}
 use Rattle.table.specs.Rows.{Form}
 use Rattle.table.specs.Table.{row_of, answer_width}
 use Rattle.table.specs.Turns.{reply_of, plans_of}
@@ -23,7 +24,7 @@ step_byte i code reply = get_or (step_bytes (row_of code).answer reply) i 0
 abbrev pub StepBytes : Type 0
 StepBytes =
     (s : State) (code : ℕ) (b : List ℕ) (i : ℕ)
-    → step_byte i code (reply_of s code b) ≡ steps_at i (slots_of s.allowance (plans_of s code b))
+    → step_byte i code (reply_of s code b) ≡ steps_at i (slots_of (most_steps s.allowance) (plans_of s code b))
 
 -- No step byte stands outside its reply.
 abbrev pub AllBelow : ℕ → List ℕ → Type 0

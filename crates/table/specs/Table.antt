@@ -1,23 +1,22 @@
 -- Document 01, "Jobs and replies": the table of commands, a row for each code, and that of document 02's ask 3. Definitions only.
-use Rattle.std.specs.Prelude.{eqb, ltb, Float, length, get_or, ℕ, ◌+◌, ◌*◌, ◌≤◌, ◌<◌, Bool, List, [], ◌∷◌}
+use Rattle.std.specs.Prelude.{eqb, ltb, Float, length, get_or, ℕ, ◌+◌, ◌*◌, ◌≤◌, ◌<◌, Bool, List, [], ◌∷◌, Result, Ok, Err}
 use Rattle.coo3d.specs.LonLats.{is_longitude, is_latitude}
 use Rattle.coo3d.specs.Points.{from_sph_coo, vect_of}
 use Rattle.coo3d.specs.declared.point.Coo3D.{Coo3D}
 use Rattle.crossing.specs.Parallels.{intersect_parallel}
-use Rattle.crossing.specs.declared.parallel.Crossing.TheVariants as parallels
 use Rattle.two_arcs.specs.TwoArcs.{edge, intersect_arcs}
 use Rattle.two_arcs.specs.declared.edge.Edge.{Edge}
-use Rattle.two_arcs.specs.declared.meeting.Meeting.{Meeting}
-use Rattle.two_arcs.specs.declared.meeting.Meeting.TheVariants.{At, Nowhere, NoCandidate}
+use Rattle.coo3d.specs.declared.vect3.Vect3.{Vect3}
+use Rattle.two_arcs.specs.declared.meeting.NoMeeting.{NoMeeting}
+use Rattle.two_arcs.specs.declared.meeting.NoMeeting.TheVariants.{Nowhere, NoCandidate}
 use Rattle.words.specs.Words.{float_at}
 use Rattle.answers.specs.Answers.{crossed_of}
 use Rattle.answers.specs.declared.answer.Answer.TheVariants.{NoRoot}
 use Rattle.special_points_finder.specs.Arcs.{arc_plan}
 use Rattle.special_points_finder.specs.Cones.{cone_plan_in_eqr, cone_plan_in_pc}
-use Rattle.splits.specs.Splits.{split_of}
-use Rattle.splits.specs.declared.split.Split.{Split}
-use Rattle.splits.specs.declared.split.Split.TheVariants.{Into, Failed}
-use Rattle.table.specs.States.{needs_settings, keeps, sets_precision, sets_allowance}
+use Rattle.splits.specs.Splits.{Split, split_of}
+use Rattle.table.specs.States.{needs_settings, precision_in, keeps, sets_precision, sets_allowance}
+use Rattle.table.specs.declared.refusal.Refusal.TheVariants as refusal
 use Rattle.table.specs.Rows.{Row, no_answer, five_slots, kind_steps_z, kind_lon_lat, Work, refused, accepted, slots, cone, crossing, is_height, is_radius, is_lon_mod_half_pi, is_flag, any_float, any_byte, needs_nothing}
 
 -- "The ends in codes 03 and 06 are made by `from_sph_coo`" ("Points")
@@ -37,14 +36,14 @@ second_arc b =
 
 -- 10: an arc that can't be split
 unfoldable pub arc_work : Split → Float → Work
-arc_work (Into regions) precision = slots (arc_plan regions precision)
-arc_work Failed precision = refused 10
+arc_work (Ok pieces) precision = slots (arc_plan pieces precision)
+arc_work (Err unsplit) precision = refused refusal.Unsplit
 
 -- "kind 3, its longitude and latitude as in code 06; if neither does, kind 5 and zeros"; 12 where there is no candidate (ask 3)
-unfoldable pub meeting_work : Meeting → Work
-meeting_work (At v) = crossing (crossed_of (parallels.At v))
-meeting_work Nowhere = crossing NoRoot
-meeting_work NoCandidate = refused 12
+unfoldable pub meeting_work : Result Vect3 NoMeeting → Work
+meeting_work (Ok v) = crossing (crossed_of (Ok v))
+meeting_work (Err Nowhere) = crossing NoRoot
+meeting_work (Err NoCandidate) = refused refusal.NoCandidate
 
 -- 00 | end | no reply at all. A list of commands ends before it (`parse` in jobs), so no turn is taken at this row: its widths alone count
 abbrev pub end : Row
@@ -90,7 +89,7 @@ arc =
       flags = [];
       answer = five_slots;
       needs = needs_settings;
-      work = λ g b. arc_work (split_of (first_end b) (second_end b)) g.precision;
+      work = λ g b. arc_work (split_of (first_end b) (second_end b)) (precision_in g);
       change = λ b. keeps;
     }
 
@@ -102,7 +101,7 @@ cone_in_eqr =
       flags = is_flag ∷ [];
       answer = kind_steps_z;
       needs = needs_settings;
-      work = λ g b. cone (cone_plan_in_eqr (float_at b 0) (float_at b 1) (float_at b 2) (eqb (get_or b 24 0) 1) g.precision);
+      work = λ g b. cone (cone_plan_in_eqr (float_at b 0) (float_at b 1) (float_at b 2) (eqb (get_or b 24 0) 1) (precision_in g));
       change = λ b. keeps;
     }
 
@@ -116,7 +115,7 @@ cone_in_pc =
       needs = needs_settings;
       work =
           λ g b. cone
-          (cone_plan_in_pc (float_at b 0) (float_at b 1) (float_at b 2) (float_at b 3) (eqb (get_or b 32 0) 1) (eqb (get_or b 33 0) 1) g.precision);
+          (cone_plan_in_pc (float_at b 0) (float_at b 1) (float_at b 2) (float_at b 3) (eqb (get_or b 32 0) 1) (eqb (get_or b 33 0) 1) (precision_in g));
       change = λ b. keeps;
     }
 

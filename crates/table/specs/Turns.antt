@@ -1,6 +1,6 @@
 -- One command, for any row of the table: document 01's refusals 6 to 9 in checking order, the reply, the state left, and the walks that begin.
 -- Definitions, and a claim on the length of a reply; `proofs/ReplyLengths.antt` proves it.
-use Rattle.std.specs.Prelude.{eqb, Float, length, get_or, replicate, ℕ, ◌+◌, ◌*◌, ◌≡◌, Bool, true, cond, not, ◌&&◌, List, [], ◌∷◌}
+use Rattle.std.specs.Prelude.{eqb, Float, length, get_or, replicate, ℕ, ◌+◌, ◌*◌, ◌≡◌, Bool, true, cond, not, ◌&&◌, List, [], ◌∷◌, Option, None, Some, Result, Ok, Err}
 use Rattle.angles.specs.Floats.{finite_of}
 use Rattle.newton.specs.declared.walk.Start.{Start}
 use Rattle.words.specs.Words.{float_at}
@@ -8,13 +8,15 @@ use Rattle.answers.specs.Bytes.{cone_bytes, slots_bytes, crossing_bytes}
 use Rattle.plans.specs.Plans.{slot_at, walks_in}
 use Rattle.special_points_finder.specs.Arcs.{slots_at}
 use Rattle.plans.specs.declared.plan.Plan.{Plan}
-use Rattle.table.specs.States.{Given, given_of, changed}
+use Rattle.table.specs.States.{Given, given_of, most_steps, changed}
+use Rattle.table.specs.Refusals.{refusal_number}
 use Rattle.table.specs.Rows.{Row, Work, refused, accepted, slots, cone, crossing}
 use Rattle.table.specs.Table.{row_of, answer_width}
 use Rattle.table.specs.declared.state.State.{State}
 use Rattle.table.specs.declared.reply.Reply.{Reply}
-use Rattle.table.specs.declared.reply.Reply.TheVariants.{Refused, Accepted, Slots, Cone, Crossing}
-use Rattle.table.specs.declared.reply.Turn.{Turn}
+use Rattle.table.specs.declared.reply.Reply.TheVariants.{Accepted, Slots, Cone, Crossing}
+use Rattle.table.specs.declared.refusal.Refusal.{Refusal}
+use Rattle.table.specs.declared.refusal.Refusal.TheVariants.{NotFinite, NotAFlag, OutOfRange}
 
 -- 7: every float operand, from the k-th on, is finite
 unfoldable pub finite_from : Bool → ℕ → List (Float → Bool) → List ℕ → Bool
@@ -31,12 +33,13 @@ unfoldable pub in_range_from : Bool → ℕ → List (Float → Bool) → List �
 in_range_from so k [] b = so
 in_range_from so k (range ∷ rest) b = in_range_from (so && range (float_at b k)) (k + 1) rest b
 
--- the number that refuses by what is given, or that of the first that does not hold: 7 finite, 8 flags, 9 in range; or 0
-unfoldable pub first_failing : ℕ → Bool → Bool → Bool → ℕ
-first_failing needs finite flags ranged =
-    cond (eqb needs 0) (cond (not finite) 7 (cond (not flags) 8 (cond (not ranged) 9 0))) needs
+-- what refuses by what is given, or the first that does not hold: 7 finite, 8 flags, 9 in range
+unfoldable pub first_failing : Option Refusal → Bool → Bool → Bool → Option Refusal
+first_failing (Some refusal) finite flags ranged = Some refusal
+first_failing None finite flags ranged =
+    cond (not finite) (Some NotFinite) (cond (not flags) (Some NotAFlag) (cond (not ranged) (Some OutOfRange) None))
 
-unfoldable pub refusal_of : Row → Given → List ℕ → ℕ
+unfoldable pub refusal_of : Row → Given → List ℕ → Option Refusal
 refusal_of r g b =
     first_failing
     (r.needs g)
@@ -45,27 +48,31 @@ refusal_of r g b =
     (in_range_from true 0 r.floats b)
 
 -- what a command comes to, refused or not
+abbrev pub work_unless : Option Refusal → Work → Work
+work_unless (Some refusal) w = refused refusal
+work_unless None w = w
+
 unfoldable pub work_of : Row → Given → List ℕ → Work
-work_of r g b = let number = refusal_of r g b in cond (eqb number 0) (r.work g b) (refused number)
+work_of r g b = work_unless (refusal_of r g b) (r.work g b)
 
 unfoldable pub status_in : Work → ℕ
-status_in (refused number) = number
+status_in (refused refusal) = refusal_number refusal
 status_in accepted = 0
 status_in (slots plan) = 0
 status_in (cone plan) = 0
 status_in (crossing a) = 0
 
 -- run with an allowance
-unfoldable pub reply_in : ℕ → Work → Reply
-reply_in n (refused number) = Refused number
-reply_in n accepted = Accepted
-reply_in n (slots plan) = Slots (slots_at n plan)
-reply_in n (cone plan) = Cone (slot_at n plan)
-reply_in n (crossing a) = Crossing a
+unfoldable pub reply_in : ℕ → Work → Result Reply Refusal
+reply_in n (refused refusal) = Err refusal
+reply_in n accepted = Ok Accepted
+reply_in n (slots plan) = Ok (Slots (slots_at n plan))
+reply_in n (cone plan) = Ok (Cone (slot_at n plan))
+reply_in n (crossing a) = Ok (Crossing a)
 
 -- the plans in the order of the slots: a walk begins for each that says so
 unfoldable pub plans_in : Work → List Plan
-plans_in (refused number) = []
+plans_in (refused refusal) = []
 plans_in accepted = []
 plans_in (slots plan) = plan.south.first ∷ plan.south.second ∷ plan.equator ∷ plan.north.first ∷ plan.north.second ∷ []
 plans_in (cone plan) = plan ∷ []
@@ -76,30 +83,32 @@ unfoldable pub left_in : Row → State → List ℕ → State
 left_in r s b = cond (eqb (status_in (work_of r (given_of s) b)) 0) (changed (r.change b) s) s
 
 -- one turn: the reply, and the state that it leaves
-unfoldable pub turn_of : Row → State → List ℕ → Turn
-turn_of r s b = record { reply = reply_in s.allowance (work_of r (given_of s) b); state = left_in r s b }
+pub record Turn : Type 0 where
+  pub reply : Result Reply Refusal
+  pub state : State
 
--- the number is the status
-unfoldable pub status_of : Reply → ℕ
-status_of (Refused number) = number
-status_of Accepted = 0
-status_of (Slots s) = 0
-status_of (Cone s) = 0
-status_of (Crossing a) = 0
+unfoldable pub turn_of : Row → State → List ℕ → Turn
+turn_of r s b =
+    record { reply = reply_in (most_steps s.allowance) (work_of r (given_of s) b); state = left_in r s b }
+
+-- the number of the refusal is the status
+unfoldable pub status_of : Result Reply Refusal → ℕ
+status_of (Err refusal) = refusal_number refusal
+status_of (Ok reply) = 0
 
 -- what follows code and status: for a refused job zeros, as many as its code's answer has bytes
-unfoldable pub answer_bytes : ℕ → Reply → List ℕ
-answer_bytes width (Refused number) = replicate width 0
-answer_bytes width Accepted = []
-answer_bytes width (Slots s) = slots_bytes s
-answer_bytes width (Cone s) = cone_bytes s
-answer_bytes width (Crossing a) = crossing_bytes a
+unfoldable pub answer_bytes : ℕ → Result Reply Refusal → List ℕ
+answer_bytes width (Err refusal) = replicate width 0
+answer_bytes width (Ok Accepted) = []
+answer_bytes width (Ok (Slots s)) = slots_bytes s
+answer_bytes width (Ok (Cone s)) = cone_bytes s
+answer_bytes width (Ok (Crossing a)) = crossing_bytes a
 
 -- a width that the answer fills
-abbrev pub Fits : Reply → ℕ → Type 0
+abbrev pub Fits : Result Reply Refusal → ℕ → Type 0
 Fits r width = length (answer_bytes width r) ≡ width
 
-unfoldable pub reply_bytes : ℕ → Reply → List ℕ
+unfoldable pub reply_bytes : ℕ → Result Reply Refusal → List ℕ
 reply_bytes code r = code ∷ status_of r ∷ answer_bytes (answer_width code) r
 
 -- of a command, from its code and the bytes of its operands: the reply, the state left, what it has for each slot before any walk, and the walks that begin

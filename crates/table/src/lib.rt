@@ -2,7 +2,7 @@
 
 #![tactic(auto)]
 
+pub mod code;
 pub mod refusal;
 pub mod reply;
 pub mod state;
-pub mod width;

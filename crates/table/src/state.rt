@@ -1,15 +1,16 @@
 // What a file keeps from command to command: the precision and the allowance that the commands so far have set.
 
-ghost use Rattle.std.specs.Prelude.{◌≡◌};
+ghost use Rattle.std.specs.Prelude.{◌≡◌, IfOk, IfErr};
 ghost use Rattle.table.specs.States.{unset, given_of, needs_settings, with_precision, with_allowance};
+ghost use Rattle.table.specs.declared.refusal.Refusal.TheVariants as refusal;
 
-// Whether each is set stands in `precise` and `allowed`. Flat, with padding at its end alone, since it is copied with every command (docs/DECISIONS.md).
+use super::refusal::Refusal;
+use plans::plan::Settings;
+
 #[derive(Clone, Copy)]
 pub struct State {
-    pub precision: f64,
-    pub precise: bool,
-    pub allowance: u8,
-    pub allowed: bool,
+    pub precision: Option<f64>,
+    pub allowance: Option<u8>,
 }
 
 impl State {
@@ -17,39 +18,43 @@ impl State {
         ensures { result ≡ unset }
     {
         State {
-            precision: 0.0,
-            precise: false,
-            allowance: 0,
-            allowed: false,
+            precision: None,
+            allowance: None,
         }
     }
 
-    // 6 where one is unset, else 0.
-    pub fn needs_settings(self) -> u8
-        ensures { result ≡ needs_settings (given_of self) }
+    // Both, where both are set.
+    #[tactic(auto, unfolding(crate::specs::States::needs_settings, crate::specs::States::given_of))]
+    pub fn settings(self) -> Result<Settings, Refusal>
+        ensures set { IfOk result (λ s. (self.precision ≡ Some s.precision) × (self.allowance ≡ Some s.allowance)) }
+        ensures unset { IfErr result (λ e. (e ≡ refusal.Unset) × (needs_settings (given_of self) ≡ Some refusal.Unset)) }
     {
-        if self.precise & self.allowed { 0 } else { 6 }
+        match (self.precision, self.allowance) {
+            (Some(precision), Some(allowance)) => Ok(Settings {
+                precision,
+                allowance,
+            }),
+            _ => Err(Refusal::Unset),
+        }
     }
 
+    #[tactic(auto, unfolding(crate::specs::States::with_precision))]
     pub fn with_precision(self, precision: f64) -> State
         ensures { result ≡ with_precision self precision }
     {
         State {
-            precision,
-            precise: true,
+            precision: Some(precision),
             allowance: self.allowance,
-            allowed: self.allowed,
         }
     }
 
+    #[tactic(auto, unfolding(crate::specs::States::with_allowance))]
     pub fn with_allowance(self, allowance: u8) -> State
         ensures { result ≡ with_allowance self allowance }
     {
         State {
             precision: self.precision,
-            precise: self.precise,
-            allowance,
-            allowed: true,
+            allowance: Some(allowance),
         }
     }
 }

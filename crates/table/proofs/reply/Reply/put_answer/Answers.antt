@@ -4,13 +4,14 @@ use mathlib.Core.Path.{◌≡◌, refl, sym, subst, ◌∙◌}
 use Prim.Native.Nat.{ℕ}
 use native.Mathlib.Omega.{arith}
 use mathlib.Core.List.{List, [], ◌∷◌}
+use Rattle.std.specs.Prelude.{Ok}
 use Rattle.table.specs.Turns.{Fits, answer_bytes}
 use Rattle.table.specs.declared.reply.Reply.{Reply}
 use Rattle.answers.proofs.AnswerLengths.{length_cone, length_slots, length_crossing}
 use Rattle.table.proofs.reply.Reply.put_answer.Goals as goal
 
-fitting : (width : ℕ) {r v : Reply} → r ≡ v → Fits r width → Fits v width
-fitting width e f = subst (λ (x : Reply). Fits x width) e f
+fitting : (width : ℕ) {r v : Reply} → r ≡ v → Fits (Ok r) width → Fits (Ok v) width
+fitting width e f = subst (λ (x : Reply). Fits (Ok x) width) e f
 
 no_bytes : (xs : List ℕ) → length xs ≡ 0 → xs ≡ []
 no_bytes [] e = refl
@@ -30,10 +31,6 @@ pub put_crossing-requires : goal.put_crossing-requires
 unfolding answer_bytes
 put_crossing-requires c =
     sym (fitting _ c.in-Crossing.is c.requires) ∙ length_crossing _
-
-pub returns-in-Refused : goal.returns-in-Refused
-unfolding answer_bytes
-returns-in-Refused c = rw c.in-Refused.is c.fill.ensures
 
 pub returns-in-Accepted : goal.returns-in-Accepted
 unfolding answer_bytes
