@@ -6,6 +6,7 @@ ghost use Rattle.arc_ends.specs.Ends.{ends_of, ends_finite, ends_in_range, edge_
 use angles::float;
 use coo3d::lonlat;
 use coo3d::point::Coo3D;
+use coo3d::vect3::Vect3;
 use two_arcs::edge::Edge;
 use words::input;
 
@@ -18,6 +19,7 @@ pub struct Ends {
 }
 
 // From the k-th float on.
+#[tactic(auto, unfolding(crate::specs::Ends::ends_of))]
 pub fn ends_of(operands: &[u8], k: usize) -> Ends
     requires { (k ≤ 4) × (8 * k + 32 ≤ length operands.now) }
     ensures { result ≡ ends_of operands.now k }
@@ -31,6 +33,7 @@ pub fn ends_of(operands: &[u8], k: usize) -> Ends
 }
 
 impl Ends {
+    #[tactic(auto, unfolding(crate::specs::Ends::ends_finite))]
     pub fn finite(self) -> bool
         ensures { result ≡ ends_finite self }
     {
@@ -40,6 +43,7 @@ impl Ends {
             & float::is_finite(self.lat2)
     }
 
+    #[tactic(auto, unfolding(crate::specs::Ends::ends_in_range))]
     pub fn in_range(self) -> bool
         ensures { result ≡ ends_in_range self }
     {
@@ -49,12 +53,13 @@ impl Ends {
             & lonlat::is_latitude(self.lat2)
     }
 
+    #[tactic(auto, unfolding(crate::specs::Ends::edge_of))]
     pub fn edge(self) -> Edge
         ensures { result ≡ edge_of self }
     {
         Edge {
-            p1: Coo3D::from_sph_coo(self.lon1, self.lat1).vect(),
-            p2: Coo3D::from_sph_coo(self.lon2, self.lat2).vect(),
+            p1: Vect3::from(Coo3D::from_sph_coo(self.lon1, self.lat1)),
+            p2: Vect3::from(Coo3D::from_sph_coo(self.lon2, self.lat2)),
         }
     }
 }

@@ -1,37 +1,30 @@
-// Code 06.
+// Code 06. It needs no settings.
 
 ghost use Rattle.std.specs.Prelude.{◌≡◌, length};
 ghost use Rattle.table.specs.Table.{parallel};
 ghost use Rattle.table.specs.Turns.{turn_of};
+ghost use Rattle.table.specs.declared.state.State.{State};
 
 use angles::float;
-use answers::answer;
+use answers::answer::Answer;
 use arc_ends::ends;
 use crossing::parallel;
 use table::refusal;
-use table::reply::{Reply, Turn};
-use table::state::State;
+use table::refusal::Refusal;
+use table::reply::Reply;
 use words::input;
 
-pub fn turn(state: State, operands: &[u8]) -> Turn
+#[tactic(auto, unfolding(table::specs::Turns::turn_of, table::specs::Turns::work_of, table::specs::Turns::refusal_of, table::specs::Turns::finite_from, table::specs::Turns::flags_from, table::specs::Turns::in_range_from, table::specs::Turns::first_failing, table::specs::Turns::reply_in, table::specs::Table::parallel, arc_ends::specs::Ends::ends_of, arc_ends::specs::Ends::ends_finite, arc_ends::specs::Ends::ends_in_range, arc_ends::specs::Ends::edge_of))]
+pub fn reply(operands: &[u8]) -> Result<Reply, Refusal>
     requires { length operands.now ≡ 40 }
-    ensures { result ≡ turn_of parallel state operands.now }
+    ensures { (s : State) → result ≡ (turn_of parallel s operands.now).reply }
 {
     let e = ends::ends_of(operands, 0);
     let z = input::float_at(operands, 4);
     let finite = e.finite() & float::is_finite(z);
     let in_range = e.in_range() & refusal::is_height(z);
-    let number = refusal::first_failing(0, finite, true, in_range);
-    if number != 0 {
-        return Turn {
-            reply: Reply::Refused(number),
-            state,
-        };
-    }
+    refusal::first_failing(finite, true, in_range)?;
     let edge = e.edge();
     let crossing = parallel::intersect_parallel(edge.p1, edge.p2, z);
-    Turn {
-        reply: Reply::Crossing(answer::crossed(crossing)),
-        state,
-    }
+    Ok(Reply::Crossing(Answer::from(crossing)))
 }

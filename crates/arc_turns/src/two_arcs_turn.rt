@@ -1,47 +1,40 @@
-// Code 07.
+// Code 07. It needs no settings.
 
 ghost use Rattle.std.specs.Prelude.{◌≡◌, ℕ, length};
 ghost use Rattle.table.specs.Table.{meeting_work, two_arcs};
 ghost use Rattle.table.specs.Turns.{reply_in, turn_of};
+ghost use Rattle.table.specs.declared.state.State.{State};
 
-use answers::answer;
 use answers::answer::Answer;
 use arc_ends::ends;
-use crossing::parallel::Crossing;
+use coo3d::vect3::Vect3;
 use table::refusal;
-use table::reply::{Reply, Turn};
-use table::state::State;
+use table::refusal::Refusal;
+use table::reply::Reply;
 use two_arcs::meeting;
-use two_arcs::meeting::Meeting;
+use two_arcs::meeting::NoMeeting;
 
 // A crossing, or refusal 12 where there is no candidate; no allowance has a part in it.
-fn crossing_or_refusal(m: Meeting) -> Reply
+#[tactic(auto, unfolding(table::specs::Turns::reply_in, table::specs::Table::meeting_work))]
+fn crossing_or_refusal(m: Result<Vect3, NoMeeting>) -> Result<Reply, Refusal>
     ensures { (n : ℕ) → result ≡ reply_in n (meeting_work m) }
 {
     match m {
-        Meeting::At(v) => Reply::Crossing(answer::crossed(Crossing::At(v))),
-        Meeting::Nowhere => Reply::Crossing(Answer::NoRoot),
-        Meeting::NoCandidate => Reply::Refused(12),
+        Ok(v) => Ok(Reply::Crossing(Answer::from(Ok(v)))),
+        Err(NoMeeting::Nowhere) => Ok(Reply::Crossing(Answer::NoRoot)),
+        Err(NoMeeting::NoCandidate) => Err(Refusal::NoCandidate),
     }
 }
 
-pub fn turn(state: State, operands: &[u8]) -> Turn
+#[tactic(auto, unfolding(table::specs::Turns::turn_of, table::specs::Turns::work_of, table::specs::Turns::refusal_of, table::specs::Turns::finite_from, table::specs::Turns::flags_from, table::specs::Turns::in_range_from, table::specs::Turns::first_failing, table::specs::Turns::reply_in, table::specs::Table::two_arcs, arc_ends::specs::Ends::ends_of, arc_ends::specs::Ends::ends_finite, arc_ends::specs::Ends::ends_in_range, arc_ends::specs::Ends::edge_of))]
+pub fn reply(operands: &[u8]) -> Result<Reply, Refusal>
     requires { length operands.now ≡ 64 }
-    ensures { result ≡ turn_of two_arcs state operands.now }
+    ensures { (s : State) → result ≡ (turn_of two_arcs s operands.now).reply }
 {
     let first = ends::ends_of(operands, 0);
     let second = ends::ends_of(operands, 4);
     let finite = first.finite() & second.finite();
     let in_range = first.in_range() & second.in_range();
-    let number = refusal::first_failing(0, finite, true, in_range);
-    if number != 0 {
-        return Turn {
-            reply: Reply::Refused(number),
-            state,
-        };
-    }
-    Turn {
-        reply: crossing_or_refusal(meeting::intersect_arcs(first.edge(), second.edge())),
-        state,
-    }
+    refusal::first_failing(finite, true, in_range)?;
+    crossing_or_refusal(meeting::intersect_arcs(first.edge(), second.edge()))
 }

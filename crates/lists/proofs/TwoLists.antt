@@ -9,7 +9,7 @@ use mathlib.Core.Logic.Iff
 use mathlib.Core.Logic.{◌↔◌}
 use Rattle.newton.specs.declared.walk.Start.{Start}
 use Rattle.plans.specs.PlanAllowances.{AllEqualOrEnd}
-use Rattle.table.specs.States.{allowance_of}
+use Rattle.table.specs.States.{most_steps}
 use Rattle.table.specs.Turns.{after, reply_of, walks_of}
 use Rattle.table.specs.CommandAllowances.{Like, CommandInTwo}
 use Rattle.table.specs.declared.state.State.{State}
@@ -57,10 +57,10 @@ module _ {s t : State} {code : ℕ} {b d : List ℕ} (k : CommandInTwo s t code 
       → Law
       (reply_of s code b ++ x)
       (reply_of t code d ++ y)
-      (each_with s.allowance (walks_of s code b) ++ us)
-      (each_with t.allowance (walks_of t code d) ++ vs)
+      (each_with (most_steps s.allowance) (walks_of s code b) ++ us)
+      (each_with (most_steps t.allowance) (walks_of t code d) ++ vs)
   first {x} {y} {us} {vs} rest =
-      let each = both_jobs s.allowance t.allowance (walks_of s code b) us vs in
+      let each = both_jobs (most_steps s.allowance) (most_steps t.allowance) (walks_of s code b) us vs in
       let parts = both_parts (reply_of s code b) (reply_of t code d) x y same_size in
       rw (← k.same_walks)
       (record {
@@ -74,7 +74,7 @@ nothing = record { same_walks = refl; law = (λ e. tt, λ e. refl) }
 along : {s t : State} {cs ds : List Command}
     → Like s t
     → LikeCommands cs ds
-    → Law (replies_from s cs) (replies_from t ds) (begun_from (allowance_of s) s cs) (begun_from (allowance_of t) t ds)
+    → Law (replies_from s cs) (replies_from t ds) (begun_from s.allowance s cs) (begun_from t.allowance t ds)
 along l none = nothing
 along {s} {t} l (one {code = code} {b = b} {d = d} o h) =
     let k = command_allowances s t code b d l o in

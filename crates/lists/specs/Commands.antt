@@ -1,8 +1,8 @@
 -- A list of commands: the replies, in their order, and the walks that begin, each with its allowance. A job file is parsed into one such list. Definitions, and the
 -- claim that ties this allowance to the settings; `proofs/Last.antt` proves it.
-use Rattle.std.specs.Prelude.{eqb, get_or, ℕ, ◌≡◌, cond, List, [], ◌∷◌, ◌++◌}
+use Rattle.std.specs.Prelude.{eqb, get_or, ℕ, ◌≡◌, cond, List, [], ◌∷◌, ◌++◌, Option, None, Some}
 use Rattle.newton.specs.declared.walk.Start.{Start}
-use Rattle.table.specs.States.{unset, Allowance, no_allowance, set_to, allowance_of}
+use Rattle.table.specs.States.{unset, most_steps}
 use Rattle.table.specs.Turns.{reply_of, after, walks_of}
 use Rattle.table.specs.declared.state.State.{State}
 
@@ -29,14 +29,14 @@ each_with n (w ∷ ws) = record { walk = w; allowance = n } ∷ each_with n ws
 
 -- "A walk's allowance is the operand of the last code 02 before its job" (document 01, "Walks"): `last` is that of the last one so far; where none came,
 -- no walk begins (`AllowanceIsLast`)
-abbrev pub last_after : Allowance → Command → Allowance
-last_after last c = cond (eqb c.code 2) (set_to (get_or c.operands 0 0)) last
+abbrev pub last_after : Option ℕ → Command → Option ℕ
+last_after last c = cond (eqb c.code 2) (Some (get_or c.operands 0 0)) last
 
 -- in the order of the jobs
-abbrev pub begun_from : Allowance → State → List Command → List Begun
+abbrev pub begun_from : Option ℕ → State → List Command → List Begun
 begun_from last s [] = []
 begun_from last s (c ∷ cs) =
-    each_with last.value (walks_of s c.code c.operands) ++ begun_from (last_after last c) (leaves s c) cs
+    each_with (most_steps last) (walks_of s c.code c.operands) ++ begun_from (last_after last c) (leaves s c) cs
 
 -- the walks alone
 abbrev pub walks : List Begun → List Start
@@ -48,15 +48,15 @@ abbrev pub left_by : State → List Command → State
 left_by s [] = s
 left_by s (c ∷ cs) = left_by (leaves s c) cs
 
-abbrev pub last_of : Allowance → List Command → Allowance
+abbrev pub last_of : Option ℕ → List Command → Option ℕ
 last_of last [] = last
 last_of last (c ∷ cs) = last_of (last_after last c) cs
 
 -- The allowance that the commands before a job leave is the operand of the last code 02 among them; where there is none, the job
 -- begins no walk.
 pub record LastIsSet (cs : List Command) : Type 0 where
-  pub left : allowance_of (left_by unset cs) ≡ last_of no_allowance cs
-  pub none : last_of no_allowance cs ≡ no_allowance → (code : ℕ) (b : List ℕ) → walks_of (left_by unset cs) code b ≡ []
+  pub left : (left_by unset cs).allowance ≡ last_of None cs
+  pub none : last_of None cs ≡ None → (code : ℕ) (b : List ℕ) → walks_of (left_by unset cs) code b ≡ []
 
 -- After any commands of a file.
 abbrev pub AllowanceIsLast : Type 0

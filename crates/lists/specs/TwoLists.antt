@@ -1,8 +1,8 @@
 -- Demand 3's core: two lists of commands, alike but for the operands of code 02. Job files cite it, and whatever else runs commands can.
 -- Definitions and the claim; `proofs/TwoLists.antt` proves it.
-use Rattle.std.specs.Prelude.{ℕ, ◌≡◌, ◌↔◌, List, [], ◌∷◌}
+use Rattle.std.specs.Prelude.{ℕ, ◌≡◌, ◌↔◌, List, [], ◌∷◌, None}
 use Rattle.newton.specs.WalkAllowances.{EqualOrEnds}
-use Rattle.table.specs.States.{unset, no_allowance}
+use Rattle.table.specs.States.{unset}
 use Rattle.table.specs.CommandAllowances.{LikeOperands}
 use Rattle.lists.specs.Commands.{Command, replies_from, Begun, begun_from, walks}
 
@@ -28,7 +28,7 @@ EachEqualOrEnds (w ∷ ws) (v ∷ vs) = EqualOrEnds w.allowance v.allowance w.wa
 
 -- the walks that a list of commands begins, from the settings unset
 abbrev pub begun_by : List Command → List Begun
-begun_by cs = begun_from no_allowance unset cs
+begun_by cs = begun_from None unset cs
 
 -- Both begin the same walks, and the replies are equal exactly when every walk is as above.
 pub record TwoLists (cs ds : List Command) : Type 0 where
