@@ -4,16 +4,16 @@ ghost use Rattle.std.specs.Prelude.{◌≡◌, length};
 ghost use Rattle.table.specs.Table.{allowance};
 ghost use Rattle.table.specs.Turns.{turn_of};
 
-use table::reply::{Reply, Turn};
+use table::refusal::Refusal;
+use table::reply::Reply;
 use table::state::State;
 
-pub fn turn(state: State, operands: &[u8]) -> Turn
+#[tactic(auto, unfolding(table::specs::Turns::turn_of, table::specs::Turns::work_of, table::specs::Turns::refusal_of, table::specs::Turns::finite_from, table::specs::Turns::flags_from, table::specs::Turns::in_range_from, table::specs::Turns::first_failing, table::specs::Turns::reply_in, table::specs::Turns::left_in, table::specs::Turns::status_in, table::specs::States::changed, table::specs::Table::allowance))]
+pub fn reply(state: &mut State, operands: &[u8]) -> Result<Reply, Refusal>
     requires { length operands.now ≡ 1 }
-    ensures { result ≡ turn_of allowance state operands.now }
+    ensures replied { result ≡ (turn_of allowance state.old operands.now).reply }
+    ensures left { state.new ≡ (turn_of allowance state.old operands.now).state }
 {
-    let n = operands[0];
-    Turn {
-        reply: Reply::Accepted,
-        state: state.with_allowance(n),
-    }
+    *state = state.with_allowance(operands[0]);
+    Ok(Reply::Accepted)
 }

@@ -5,44 +5,32 @@ ghost use Rattle.table.specs.Table.{cone_in_eqr};
 ghost use Rattle.table.specs.Turns.{turn_of};
 
 use angles::float;
-use special_points_finder::cone;
+use special_points_finder::cone_in_eqr::ConeInEqr;
 use table::refusal;
-use table::reply::{Reply, Turn};
+use table::refusal::Refusal;
+use table::reply::Reply;
 use table::state::State;
 use words::input;
 
-pub fn turn(state: State, operands: &[u8]) -> Turn
+#[tactic(auto, unfolding(table::specs::Turns::turn_of, table::specs::Turns::work_of, table::specs::Turns::refusal_of, table::specs::Turns::finite_from, table::specs::Turns::flags_from, table::specs::Turns::in_range_from, table::specs::Turns::first_failing, table::specs::Turns::reply_in, table::specs::Table::cone_in_eqr, table::specs::States::given_of, table::specs::States::needs_settings))]
+pub fn reply(state: State, operands: &[u8]) -> Result<Reply, Refusal>
     requires { length operands.now ≡ 25 }
-    ensures { result ≡ turn_of cone_in_eqr state operands.now }
+    ensures { result ≡ (turn_of cone_in_eqr state operands.now).reply }
 {
-    let z = input::float_at(operands, 0);
-    let z0 = input::float_at(operands, 1);
-    let radius = input::float_at(operands, 2);
+    let settings = state.settings()?;
     let north = operands[24];
-    let finite = float::is_finite(z) & float::is_finite(z0) & float::is_finite(radius);
-    let in_range = refusal::is_height(z) & refusal::is_height(z0) & refusal::is_radius(radius);
-    let number = refusal::first_failing(
-        state.needs_settings(),
-        finite,
-        refusal::is_flag(north),
-        in_range,
-    );
-    if number != 0 {
-        return Turn {
-            reply: Reply::Refused(number),
-            state,
-        };
-    }
-    let slot = cone::cone_special_point_in_eqr(
-        z,
-        z0,
-        radius,
-        north == 1,
-        state.precision,
-        state.allowance,
-    );
-    Turn {
-        reply: Reply::Cone(slot),
-        state,
-    }
+    let cone = ConeInEqr {
+        z: input::float_at(operands, 0),
+        z0: input::float_at(operands, 1),
+        radius: input::float_at(operands, 2),
+        north: north == 1,
+    };
+    let finite = float::is_finite(cone.z)
+        & float::is_finite(cone.z0)
+        & float::is_finite(cone.radius);
+    let in_range = refusal::is_height(cone.z)
+        & refusal::is_height(cone.z0)
+        & refusal::is_radius(cone.radius);
+    refusal::first_failing(finite, refusal::is_flag(north), in_range)?;
+    Ok(Reply::Cone(cone.special_point(settings)))
 }

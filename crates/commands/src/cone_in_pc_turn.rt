@@ -5,50 +5,38 @@ ghost use Rattle.table.specs.Table.{cone_in_pc};
 ghost use Rattle.table.specs.Turns.{turn_of};
 
 use angles::float;
-use special_points_finder::cone;
+use special_points_finder::cone_in_pc::ConeInPc;
 use table::refusal;
-use table::reply::{Reply, Turn};
+use table::refusal::Refusal;
+use table::reply::Reply;
 use table::state::State;
 use words::input;
 
-pub fn turn(state: State, operands: &[u8]) -> Turn
+#[tactic(auto, unfolding(table::specs::Turns::turn_of, table::specs::Turns::work_of, table::specs::Turns::refusal_of, table::specs::Turns::finite_from, table::specs::Turns::flags_from, table::specs::Turns::in_range_from, table::specs::Turns::first_failing, table::specs::Turns::reply_in, table::specs::Table::cone_in_pc, table::specs::States::given_of, table::specs::States::needs_settings))]
+pub fn reply(state: State, operands: &[u8]) -> Result<Reply, Refusal>
     requires { length operands.now ≡ 34 }
-    ensures { result ≡ turn_of cone_in_pc state operands.now }
+    ensures { result ≡ (turn_of cone_in_pc state operands.now).reply }
 {
-    let z = input::float_at(operands, 0);
-    let lon = input::float_at(operands, 1);
-    let z0 = input::float_at(operands, 2);
-    let radius = input::float_at(operands, 3);
+    let settings = state.settings()?;
     let east = operands[32];
     let north = operands[33];
-    let finite = float::is_finite(z)
-        & float::is_finite(lon)
-        & float::is_finite(z0)
-        & float::is_finite(radius);
+    let cone = ConeInPc {
+        z: input::float_at(operands, 0),
+        lon: input::float_at(operands, 1),
+        z0: input::float_at(operands, 2),
+        radius: input::float_at(operands, 3),
+        east: east == 1,
+        north: north == 1,
+    };
+    let finite = float::is_finite(cone.z)
+        & float::is_finite(cone.lon)
+        & float::is_finite(cone.z0)
+        & float::is_finite(cone.radius);
     let flags = refusal::is_flag(east) & refusal::is_flag(north);
-    let in_range = refusal::is_height(z)
-        & refusal::is_lon_mod_half_pi(lon)
-        & refusal::is_height(z0)
-        & refusal::is_radius(radius);
-    let number = refusal::first_failing(state.needs_settings(), finite, flags, in_range);
-    if number != 0 {
-        return Turn {
-            reply: Reply::Refused(number),
-            state,
-        };
-    }
-    let slot = cone::cone_special_point_in_pc(
-        z,
-        lon,
-        z0,
-        radius,
-        east == 1,
-        north == 1,
-        state.precision,
-        state.allowance,
-    );
-    Turn {
-        reply: Reply::Cone(slot),
-        state,
-    }
+    let in_range = refusal::is_height(cone.z)
+        & refusal::is_lon_mod_half_pi(cone.lon)
+        & refusal::is_height(cone.z0)
+        & refusal::is_radius(cone.radius);
+    refusal::first_failing(finite, flags, in_range)?;
+    Ok(Reply::Cone(cone.special_point(settings)))
 }

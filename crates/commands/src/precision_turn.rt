@@ -6,24 +6,19 @@ ghost use Rattle.table.specs.Turns.{turn_of};
 
 use angles::float;
 use table::refusal;
-use table::reply::{Reply, Turn};
+use table::refusal::Refusal;
+use table::reply::Reply;
 use table::state::State;
 use words::input;
 
-pub fn turn(state: State, operands: &[u8]) -> Turn
+#[tactic(auto, unfolding(table::specs::Turns::turn_of, table::specs::Turns::work_of, table::specs::Turns::refusal_of, table::specs::Turns::finite_from, table::specs::Turns::flags_from, table::specs::Turns::in_range_from, table::specs::Turns::first_failing, table::specs::Turns::reply_in, table::specs::Turns::left_in, table::specs::Turns::status_in, table::specs::States::changed, table::specs::Table::precision))]
+pub fn reply(state: &mut State, operands: &[u8]) -> Result<Reply, Refusal>
     requires { length operands.now ≡ 8 }
-    ensures { result ≡ turn_of precision state operands.now }
+    ensures replied { result ≡ (turn_of precision state.old operands.now).reply }
+    ensures left { state.new ≡ (turn_of precision state.old operands.now).state }
 {
     let p = input::float_at(operands, 0);
-    let number = refusal::first_failing(0, float::is_finite(p), true, true);
-    if number != 0 {
-        return Turn {
-            reply: Reply::Refused(number),
-            state,
-        };
-    }
-    Turn {
-        reply: Reply::Accepted,
-        state: state.with_precision(p),
-    }
+    refusal::first_failing(float::is_finite(p), true, true)?;
+    *state = state.with_precision(p);
+    Ok(Reply::Accepted)
 }

@@ -1,25 +1,29 @@
-// One turn, by the code.
+// One turn, by the code: the reply, and the state that it leaves.
 
 ghost use Rattle.std.specs.Prelude.{◌≡◌, length};
-ghost use Rattle.table.specs.Table.{Known, operand_width, row_of};
+ghost use Rattle.table.specs.Codes.{code_byte};
+ghost use Rattle.table.specs.Table.{operand_width, row_of};
 ghost use Rattle.table.specs.Turns.{turn_of};
 
 use super::{allowance_turn, cone_in_eqr_turn, cone_in_pc_turn, precision_turn};
 use arc_turns::{arc_turn, parallel_turn, two_arcs_turn};
-use table::reply::Turn;
+use table::code::Code;
+use table::refusal::Refusal;
+use table::reply::Reply;
 use table::state::State;
 
-pub fn turn(state: State, code: u8, operands: &[u8]) -> Turn
-    requires { Known code × (length operands.now ≡ operand_width code) }
-    ensures { result ≡ turn_of (row_of code) state operands.now }
+pub fn turn(state: &mut State, code: Code, operands: &[u8]) -> Result<Reply, Refusal>
+    requires { length operands.now ≡ operand_width (code_byte code) }
+    ensures replied { result ≡ (turn_of (row_of (code_byte code)) state.old operands.now).reply }
+    ensures left { state.new ≡ (turn_of (row_of (code_byte code)) state.old operands.now).state }
 {
     match code {
-        1 => precision_turn::turn(state, operands),
-        2 => allowance_turn::turn(state, operands),
-        3 => arc_turn::turn(state, operands),
-        4 => cone_in_eqr_turn::turn(state, operands),
-        5 => cone_in_pc_turn::turn(state, operands),
-        6 => parallel_turn::turn(state, operands),
-        _ => two_arcs_turn::turn(state, operands),
+        Code::Precision => precision_turn::reply(state, operands),
+        Code::Allowance => allowance_turn::reply(state, operands),
+        Code::Arc => arc_turn::reply(*state, operands),
+        Code::ConeInEqr => cone_in_eqr_turn::reply(*state, operands),
+        Code::ConeInPc => cone_in_pc_turn::reply(*state, operands),
+        Code::Parallel => parallel_turn::reply(operands),
+        Code::TwoArcs => two_arcs_turn::reply(operands),
     }
 }

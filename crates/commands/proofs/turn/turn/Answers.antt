@@ -1,68 +1,119 @@
--- By the code: the width of its operands is what its module asks, and its row is what that module answers.
-use lib.ListN.{get_or}
-use native.Mathlib.Omega.{arith}
+-- By the code: the width of its operands is what its module asks, and its row is what that module answers. Only 01 and 02 change the state.
 use Prim.Native.Nat.{ℕ}
-use mathlib.Core.Path.{◌≡◌, sym, ap, ◌∙◌}
+use mathlib.Core.Path.{◌≡◌, refl, sym, ap, ◌∙◌}
 use mathlib.Core.List.{List}
-use Rattle.table.specs.Table.{operand_width, row_of}
-use Rattle.table.specs.Turns.{turn_of}
+use Rattle.std.specs.Prelude.{Result}
+use Rattle.table.proofs.Cases.{either_way}
+use Rattle.table.specs.Codes.{code_byte}
+use Rattle.table.specs.States.{keeps, changed}
+use Rattle.table.specs.Table.{precision, allowance, arc, cone_in_eqr, cone_in_pc, parallel, two_arcs, row_of, width_in, operand_width}
+use Rattle.table.specs.Turns.{left_in, turn_of}
+use Rattle.table.specs.declared.code.Code.{Code}
+use Rattle.table.specs.declared.code.Code.TheVariants as code
+use Rattle.table.specs.declared.refusal.Refusal.{Refusal}
+use Rattle.table.specs.declared.reply.Reply.{Reply}
 use Rattle.table.specs.declared.state.State.{State}
-use Rattle.table.specs.declared.reply.Turn.{Turn}
-use Rattle.table.proofs.Widths.{operands, operand_column}
 use Rattle.commands.proofs.turn.turn.Goals as goal
 
-module _ (k : ℕ) {code : ℕ} where
-  width : {n : ℕ} → n ≡ operand_width code → code ≡ k → n ≡ get_or operands k 0
-  width e h = e ∙ ap operand_width h ∙ sym (operand_column k)
+module _ (k : Code) {c : Code} (e : c ≡ k) where
+  width : {n : ℕ} → n ≡ operand_width (code_byte c) → n ≡ operand_width (code_byte k)
+  width h = h ∙ ap (λ c. operand_width (code_byte c)) e
 
-  answer : {r : Turn} (s : State) (b : List ℕ) → r ≡ turn_of (row_of k) s b → code ≡ k → r ≡ turn_of (row_of code) s b
-  answer s b e h = e ∙ ap (λ (n : ℕ). turn_of (row_of n) s b) (sym h)
+  replied : {r : Result Reply Refusal} (s : State) (b : List ℕ)
+      → r ≡ (turn_of (row_of (code_byte k)) s b).reply
+      → r ≡ (turn_of (row_of (code_byte c)) s b).reply
+  replied s b h = h ∙ ap (λ c. (turn_of (row_of (code_byte c)) s b).reply) (sym e)
 
-pub turn-requires : goal.turn-requires
-turn-requires c = width 1 c.requires.1 c.in-1.is
+  left : {t : State} (s : State) (b : List ℕ)
+      → t ≡ (turn_of (row_of (code_byte k)) s b).state
+      → t ≡ (turn_of (row_of (code_byte c)) s b).state
+  left s b h = h ∙ ap (λ c. (turn_of (row_of (code_byte c)) s b).state) (sym e)
 
-pub turn-requires-in-2 : goal.turn-requires-in-2
-turn-requires-in-2 c = width 2 c.requires.1 c.in-2.is
+  -- a row that keeps the state
+  kept : (s : State) (b : List ℕ) → (row_of (code_byte k)).change b ≡ keeps → s ≡ (turn_of (row_of (code_byte c)) s b).state
+  unfolding turn_of left_in changed
+  kept s b h = left s b (sym (rw h (either_way _ s)))
 
-pub turn-requires-in-3 : goal.turn-requires-in-3
-turn-requires-in-3 c = width 3 c.requires.1 c.in-3.is
+pub reply-requires : goal.reply-requires
+unfolding operand_width width_in row_of precision
+reply-requires c = width code.Precision c.in-Precision.is c.requires
 
-pub turn-requires-in-4 : goal.turn-requires-in-4
-turn-requires-in-4 c = width 4 c.requires.1 c.in-4.is
+pub reply-requires-in-Allowance : goal.reply-requires-in-Allowance
+unfolding operand_width width_in row_of allowance
+reply-requires-in-Allowance c = width code.Allowance c.in-Allowance.is c.requires
 
-pub turn-requires-in-5 : goal.turn-requires-in-5
-turn-requires-in-5 c = width 5 c.requires.1 c.in-5.is
+pub reply-requires-in-Arc : goal.reply-requires-in-Arc
+unfolding operand_width width_in row_of arc
+reply-requires-in-Arc c = width code.Arc c.in-Arc.is c.requires
 
-pub turn-requires-in-6 : goal.turn-requires-in-6
-turn-requires-in-6 c = width 6 c.requires.1 c.in-6.is
+pub reply-requires-in-ConeInEqr : goal.reply-requires-in-ConeInEqr
+unfolding operand_width width_in row_of cone_in_eqr
+reply-requires-in-ConeInEqr c = width code.ConeInEqr c.in-ConeInEqr.is c.requires
 
-pub turn-requires-in_default : goal.turn-requires-in_default
-turn-requires-in_default c = width 7 c.requires.1 (omega arith)
+pub reply-requires-in-ConeInPc : goal.reply-requires-in-ConeInPc
+unfolding operand_width width_in row_of cone_in_pc
+reply-requires-in-ConeInPc c = width code.ConeInPc c.in-ConeInPc.is c.requires
 
-pub returns-in-1 : goal.returns-in-1
-unfolding row_of
-returns-in-1 c = answer 1 _ _ c.turn.ensures c.in-1.is
+pub reply-requires-in-Parallel : goal.reply-requires-in-Parallel
+unfolding operand_width width_in row_of parallel
+reply-requires-in-Parallel c = width code.Parallel c.in-Parallel.is c.requires
 
-pub returns-in-2 : goal.returns-in-2
-unfolding row_of
-returns-in-2 c = answer 2 _ _ c.turn-in-2.ensures c.in-2.is
+pub reply-requires-in-TwoArcs : goal.reply-requires-in-TwoArcs
+unfolding operand_width width_in row_of two_arcs
+reply-requires-in-TwoArcs c = width code.TwoArcs c.in-TwoArcs.is c.requires
 
-pub returns-in-3 : goal.returns-in-3
-unfolding row_of
-returns-in-3 c = answer 3 _ _ c.turn-in-3.ensures c.in-3.is
+pub returns-in-Precision : goal.returns-in-Precision
+unfolding row_of precision
+returns-in-Precision c =
+    record {
+      replied = replied code.Precision c.in-Precision.is _ _ c.reply.ensures.replied;
+      left = left code.Precision c.in-Precision.is _ _ c.reply.ensures.left;
+    }
 
-pub returns-in-4 : goal.returns-in-4
-unfolding row_of
-returns-in-4 c = answer 4 _ _ c.turn-in-4.ensures c.in-4.is
+pub returns-in-Allowance : goal.returns-in-Allowance
+unfolding row_of allowance
+returns-in-Allowance c =
+    record {
+      replied = replied code.Allowance c.in-Allowance.is _ _ c.reply-in-Allowance.ensures.replied;
+      left = left code.Allowance c.in-Allowance.is _ _ c.reply-in-Allowance.ensures.left;
+    }
 
-pub returns-in-5 : goal.returns-in-5
-unfolding row_of
-returns-in-5 c = answer 5 _ _ c.turn-in-5.ensures c.in-5.is
+pub returns-in-Arc : goal.returns-in-Arc
+unfolding row_of arc
+returns-in-Arc c =
+    record {
+      replied = replied code.Arc c.in-Arc.is _ _ c.reply-in-Arc.ensures;
+      left = kept code.Arc c.in-Arc.is _ _ refl;
+    }
 
-pub returns-in-6 : goal.returns-in-6
-unfolding row_of
-returns-in-6 c = answer 6 _ _ c.turn-in-6.ensures c.in-6.is
+pub returns-in-ConeInEqr : goal.returns-in-ConeInEqr
+unfolding row_of cone_in_eqr
+returns-in-ConeInEqr c =
+    record {
+      replied = replied code.ConeInEqr c.in-ConeInEqr.is _ _ c.reply-in-ConeInEqr.ensures;
+      left = kept code.ConeInEqr c.in-ConeInEqr.is _ _ refl;
+    }
 
-pub returns-in_default : goal.returns-in_default
-unfolding row_of
-returns-in_default c = answer 7 _ _ c.turn-in_default.ensures (omega arith)
+pub returns-in-ConeInPc : goal.returns-in-ConeInPc
+unfolding row_of cone_in_pc
+returns-in-ConeInPc c =
+    record {
+      replied = replied code.ConeInPc c.in-ConeInPc.is _ _ c.reply-in-ConeInPc.ensures;
+      left = kept code.ConeInPc c.in-ConeInPc.is _ _ refl;
+    }
+
+pub returns-in-Parallel : goal.returns-in-Parallel
+unfolding row_of parallel
+returns-in-Parallel c =
+    record {
+      replied = replied code.Parallel c.in-Parallel.is _ _ (c.reply-in-Parallel.ensures _);
+      left = kept code.Parallel c.in-Parallel.is _ _ refl;
+    }
+
+pub returns-in-TwoArcs : goal.returns-in-TwoArcs
+unfolding row_of two_arcs
+returns-in-TwoArcs c =
+    record {
+      replied = replied code.TwoArcs c.in-TwoArcs.is _ _ (c.reply-in-TwoArcs.ensures _);
+      left = kept code.TwoArcs c.in-TwoArcs.is _ _ refl;
+    }
