@@ -11,12 +11,10 @@ use native.Mathlib.Numerals.{add-one}
 use mathlib.Core.Path.{◌≡◌, refl, sym, ap, subst, ◌∙◌}
 use mathlib.Core.Bool.{Bool, true, false, cond}
 use mathlib.Core.List.{List, [], ◌∷◌}
-use Rattle.table.specs.Table.{Known, in_table, operand_width}
-use Rattle.jobs.specs.declared.item.Item.{Item}
-use Rattle.jobs.specs.declared.item.Item.TheVariants as item
+use Rattle.table.specs.Table.{in_table, operand_width}
 use Rattle.lists.specs.Commands.{Command}
 use Rattle.jobs.specs.Files.{Parsed, commands, refused, before, ended, parse}
-use Rattle.jobs.specs.Passes.{item_of, item_at}
+use Rattle.jobs.specs.Passes.{Item, command, end, refusal, item_of, item_at}
 use Rattle.table.proofs.Cases.{by_test}
 
 -- operands are passed over
@@ -36,14 +34,14 @@ command_at job at code = record { code = code; operands = take (operand_width co
 
 -- what an item says of them
 abbrev pub parsed_as : List ℕ → ℕ → Item → Parsed
-parsed_as job at (item.Command code end) = before (command_at job at code) (parsed_at job end)
-parsed_as job at item.End = commands []
-parsed_as job at (item.Refused number place) = refused number place
+parsed_as job at (command code to) = before (command_at job at code) (parsed_at job to)
+parsed_as job at end = commands []
+parsed_as job at (refusal number place) = refused number place
 
-ended_as : (job : List ℕ) (at : ℕ) → at < length job → ended (at + 1) (drop (at + 1) job) ≡ parsed_as job at (cond (eqb (at + 1) (length job)) item.End (item.Refused 4 (at + 1)))
+ended_as : (job : List ℕ) (at : ℕ) → at < length job → ended (at + 1) (drop (at + 1) job) ≡ parsed_as job at (cond (eqb (at + 1) (length job)) end (refusal 4 (at + 1)))
 ended_as job at h = go (eqb (at + 1) (length job)) refl
   where
-    go : (b : Bool) → eqb (at + 1) (length job) ≡ b → ended (at + 1) (drop (at + 1) job) ≡ parsed_as job at (cond b item.End (item.Refused 4 (at + 1)))
+    go : (b : Bool) → eqb (at + 1) (length job) ≡ b → ended (at + 1) (drop (at + 1) job) ≡ parsed_as job at (cond b end (refusal 4 (at + 1)))
     go true e = let q : length job ≤ at + 1 = omega (arith, eqb-true (at + 1) (length job) e) in rw (drop_of_length-le job q) refl
     go false e = let q : at + 1 < length job = omega (arith, eqb-false (at + 1) (length job) e) in rw (drop-cons job (at + 1) 0 q) refl
 
@@ -53,12 +51,12 @@ cond_as job at false u v p q = q
 
 operands_as : (job : List ℕ) (at code : ℕ) → at < length job →
     cond (leb (operand_width code) (length job - (at + 1))) (before (command_at job at code) (parse (at + 1) (operand_width code) (drop (at + 1) job))) (refused 3 at)
-    ≡ parsed_as job at (cond (leb (operand_width code) (length job - (at + 1))) (item.Command code (at + 1 + operand_width code)) (item.Refused 3 at))
+    ≡ parsed_as job at (cond (leb (operand_width code) (length job - (at + 1))) (command code (at + 1 + operand_width code)) (refusal 3 at))
 operands_as job at code h = go (leb (operand_width code) (length job - (at + 1))) refl
   where
     go : (b : Bool) → leb (operand_width code) (length job - (at + 1)) ≡ b →
         cond b (before (command_at job at code) (parse (at + 1) (operand_width code) (drop (at + 1) job))) (refused 3 at)
-        ≡ parsed_as job at (cond b (item.Command code (at + 1 + operand_width code)) (item.Refused 3 at))
+        ≡ parsed_as job at (cond b (command code (at + 1 + operand_width code)) (refusal 3 at))
     go true e =
         let l : operand_width code ≤ length (drop (at + 1) job) = simp length-drop (leb-true _ _ e) in
         ap (before (command_at job at code))
@@ -75,7 +73,7 @@ pub parsed_at_lem : (job : List ℕ) (at : ℕ) → parsed_at job at ≡ parsed_
 unfolding item_at
 parsed_at_lem job at = go (ltb at (length job)) refl
   where
-    go : (b : Bool) → ltb at (length job) ≡ b → parsed_at job at ≡ parsed_as job at (cond b (item_of (get_or job at 0) at (length job)) (item.Refused 3 at))
+    go : (b : Bool) → ltb at (length job) ≡ b → parsed_at job at ≡ parsed_as job at (cond b (item_of (get_or job at 0) at (length job)) (refusal 3 at))
     go true e =
         let h : at < length job = ltb-true at (length job) e in
         ap (λ (r : List ℕ). parse at 0 r) (drop-cons job at 0 h ∙ ap (λ (n : ℕ). get_or job at 0 ∷ drop n job) (sym (add-one at)))
@@ -84,9 +82,9 @@ parsed_at_lem job at = go (ltb at (length job)) refl
 
 -- a command that is found there lies in the file
 abbrev pub Good : List ℕ → ℕ → Item → Type 0
-Good job at (item.Command code end) = Known code × (end ≡ at + 1 + operand_width code) × (end ≤ length job)
-Good job at item.End = Unit {0}
-Good job at (item.Refused number place) = Unit {0}
+Good job at (command code to) = (to ≡ at + 1 + operand_width code) × (to ≤ length job)
+Good job at end = Unit {0}
+Good job at (refusal number place) = Unit {0}
 
 pub good : (job : List ℕ) (at : ℕ) → Good job at (item_at job at)
 unfolding item_at
@@ -98,15 +96,15 @@ good job at =
     (λ l. by_test (Good job at) (eqb code 0)
     (λ z. by_test (Good job at) (eqb (at + 1) n) (λ e. tt) (λ e. tt))
     (λ z. by_test (Good job at) (leb (operand_width code) (n - (at + 1)))
-    (λ w. ((omega (arith, eqb-false code 0 z), ltb-true code _ l), refl, omega (arith, ltb-true at n h, leb-true (operand_width code) (n - (at + 1)) w)))
+    (λ w. (refl, omega (arith, ltb-true at n h, leb-true (operand_width code) (n - (at + 1)) w)))
     (λ w. tt)))
     (λ l. tt))
     (λ h. tt)
 
--- what a match on an item tells
-module _ (job : List ℕ) (at : ℕ) (r t : Item) (e : r ≡ item_at job at) (q : r ≡ t) where
+-- what is told of the item at a place
+module _ (job : List ℕ) (at : ℕ) (t : Item) (e : item_at job at ≡ t) where
   pub at_item : parsed_at job at ≡ parsed_as job at t
-  at_item = parsed_at_lem job at ∙ ap (parsed_as job at) (sym e ∙ q)
+  at_item = parsed_at_lem job at ∙ ap (parsed_as job at) e
 
   pub good_item : Good job at t
-  good_item = subst (Good job at) (sym e ∙ q) (good job at)
+  good_item = subst (Good job at) e (good job at)

@@ -1,3 +1,4 @@
 pub mod Items
 pub mod Files
 pub mod Passes
+pub mod Codes

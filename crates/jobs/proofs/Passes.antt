@@ -12,15 +12,14 @@ use Rattle.table.specs.States.{unset}
 use Rattle.table.specs.Turns.{reply_of}
 use Rattle.table.specs.declared.state.State.{State}
 use Rattle.table.proofs.ReplyLengths.{length_reply}
-use Rattle.jobs.specs.declared.file.Checked.TheVariants as checked
 use Rattle.lists.specs.Commands.{Command, leaves, replies_from}
 use Rattle.jobs.specs.Files.{Parsed, commands, refused, before, file_of, over, ran, run_parsed}
-use Rattle.jobs.specs.Passes.{needed, checked_of, Fitting, filled}
+use Rattle.jobs.specs.Passes.{needed, accepted, not_accepted, checked_of, Fitting, filled}
 use Rattle.words.proofs.Parts.{take_mid, drop_mid}
 
 -- the first pass over one command
 pub checked_before : (total : ℕ) (c : Command) (p : Parsed) → checked_of total (before c p) ≡ checked_of (total + (2 + answer_width c.code)) p
-checked_before total c (commands cs) = ap checked.Accepted (omega arith)
+checked_before total c (commands cs) = ap accepted (omega arith)
 checked_before total c (refused number place) = refl
 
 pub length_replies : (s : State) (cs : List Command) → length (replies_from s cs) ≡ needed cs
@@ -60,7 +59,7 @@ pass s c p n reply ys out k j f h e q r =
     ∙ rw (← r, ← e, q, take_mid reply ys out k h l, drop_mid reply ys out k h l) (sym (append_assoc (take out reply) ys (filled (leaves s c) p (drop k (drop out reply)))))
 
 -- a whole file by what the first pass answered
-pub refused_run : (p : Parsed) (number place size : ℕ) (old : List ℕ) → checked_of 0 p ≡ checked.Refused number place → run_parsed p size old ≡ ran number place 0 old
+pub refused_run : (p : Parsed) (number place size : ℕ) (old : List ℕ) → checked_of 0 p ≡ not_accepted number place → run_parsed p size old ≡ ran number place 0 old
 refused_run (commands cs) number place size old e = let z : ◌≡◌ {A = ℕ} 0 1 = cc in absurd (omega arith)
 refused_run (refused a b) number place size old e =
     let p : a ≡ number = cc in
@@ -68,18 +67,18 @@ refused_run (refused a b) number place size old e =
     rw (p, q) refl
 
 module _ (total size : ℕ) (old : List ℕ) where
-  pub accepted_fits : (p : Parsed) → checked_of 0 p ≡ checked.Accepted total → total ≤ length old → Fitting p (length old)
+  pub accepted_fits : (p : Parsed) → checked_of 0 p ≡ accepted total → total ≤ length old → Fitting p (length old)
   accepted_fits (commands cs) e h = let q : 0 + needed cs ≡ total = cc in omega arith
   accepted_fits (refused a b) e h = let z : ◌≡◌ {A = ℕ} 0 1 = cc in absurd (omega arith)
 
-  accepted_parsed : (p : Parsed) → checked_of 0 p ≡ checked.Accepted total → total ≤ length old → run_parsed p size old ≡ ran 0 size total (filled unset p old)
+  accepted_parsed : (p : Parsed) → checked_of 0 p ≡ accepted total → total ≤ length old → run_parsed p size old ≡ ran 0 size total (filled unset p old)
   accepted_parsed (commands cs) e h =
       let q : 0 + needed cs ≡ total = cc in
       let r : length (replies_from unset cs) ≡ total = length_replies unset cs ∙ omega arith in
       rw (r, le-leb total (length old) h) refl
   accepted_parsed (refused a b) e h = let z : ◌≡◌ {A = ℕ} 0 1 = cc in absurd (omega arith)
 
-  short_parsed : (p : Parsed) → checked_of 0 p ≡ checked.Accepted total → length old < total → run_parsed p size old ≡ ran 5 total 0 old
+  short_parsed : (p : Parsed) → checked_of 0 p ≡ accepted total → length old < total → run_parsed p size old ≡ ran 5 total 0 old
   short_parsed (commands cs) e h =
       let q : 0 + needed cs ≡ total = cc in
       let r : length (replies_from unset cs) ≡ total = length_replies unset cs ∙ omega arith in
@@ -87,13 +86,13 @@ module _ (total size : ℕ) (old : List ℕ) where
   short_parsed (refused a b) e h = let z : ◌≡◌ {A = ℕ} 0 1 = cc in absurd (omega arith)
 
   pub accepted_run : (job : List ℕ)
-      → checked_of 0 (file_of job) ≡ checked.Accepted total
+      → checked_of 0 (file_of job) ≡ accepted total
       → total ≤ length old
       → run_parsed (file_of job) size old ≡ ran 0 size total (filled unset (file_of job) old)
   accepted_run job = accepted_parsed (file_of job)
 
   pub short_run : (job : List ℕ)
-      → checked_of 0 (file_of job) ≡ checked.Accepted total
+      → checked_of 0 (file_of job) ≡ accepted total
       → length old < total
       → run_parsed (file_of job) size old ≡ ran 5 total 0 old
   short_run job = short_parsed (file_of job)

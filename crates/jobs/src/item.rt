@@ -1,38 +1,64 @@
 // What stands at a place of a job file.
 
-ghost use Rattle.std.specs.Prelude.{◌≡◌};
-ghost use Rattle.jobs.specs.Passes.{item_at};
+ghost use Rattle.std.specs.Prelude.{◌≡◌, IfSome, IfNone};
+ghost use Rattle.table.specs.Codes.{code_byte};
+ghost use Rattle.jobs.specs.Passes.{command, NoCommand, item_told, item_at};
 
-use table::width;
+use super::refusal::{Reason, Refusal};
+use table::code::Code;
 
-// A command, with the place past its operands; the end; or a refusal, with its place.
+// A command, with the place past its operands.
 #[derive(Clone, Copy)]
-pub enum Item {
-    Command(u8, usize),
-    End,
-    Refused(u8, usize),
+pub struct Found {
+    pub code: Code,
+    pub end: usize,
 }
 
-pub fn item_at(job: &[u8], at: usize) -> Item
-    ensures { result ≡ item_at job.now at }
+// A command, or None at the end.
+pub fn command_at(job: &[u8], at: usize) -> Result<Option<Found>, Refusal>
+    ensures { item_told result ≡ item_at job.now at }
 {
+    let cut_short = Refusal {
+        reason: Reason::CutShort,
+        place: at,
+    };
     if job.len() <= at {
-        return Item::Refused(3, at);
-    }
-    let code = job[at];
-    if width::CODES <= code {
-        return Item::Refused(2, at);
+        return Err(cut_short);
     }
     let start = at + 1;
-    if code == 0 {
+    let byte = job[at];
+    if byte == 0 {
         if start == job.len() {
-            return Item::End;
+            return Ok(None);
         }
-        return Item::Refused(4, start);
+        return Err(Refusal {
+            reason: Reason::AfterTheEnd,
+            place: start,
+        });
     }
-    let operands = width::operand_width(code);
+    let Ok(code) = Code::try_from(byte) else {
+        return Err(Refusal {
+            reason: Reason::NotInTable,
+            place: at,
+        });
+    };
+    let operands = code.operand_width();
     if operands <= job.len() - start {
-        return Item::Command(code, start + operands);
+        return Ok(Some(Found {
+            code,
+            end: start + operands,
+        }));
     }
-    Item::Refused(3, at)
+    Err(cut_short)
+}
+
+// The same in an accepted file, which has no refusal.
+pub fn next_command(job: &[u8], at: usize) -> Option<Found>
+    ensures some { IfSome result (λ c. item_at job.now at ≡ command (code_byte c.code) c.end) }
+    ensures none { IfNone result (NoCommand (item_at job.now at)) }
+{
+    match command_at(job, at) {
+        Ok(found) => found,
+        Err(_) => None,
+    }
 }

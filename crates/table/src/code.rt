@@ -1,7 +1,7 @@
 // The codes that have a reply, and the table of commands by them: how wide the operands are, and the reply.
 
-ghost use Rattle.std.specs.Prelude.{◌≡◌, ◌+◌, ◌≤◌, None, Some, MatchResult};
-ghost use Rattle.table.specs.Codes.{code_byte, code_at};
+ghost use Rattle.std.specs.Prelude.{◌≡◌, ◌+◌, ◌≤◌, MatchResult};
+ghost use Rattle.table.specs.Codes.{code_byte, HasNoCode};
 ghost use Rattle.table.specs.Table.{operand_width, answer_width};
 
 #[derive(Clone, Copy, Debug, PartialEq, Eq)]
@@ -38,7 +38,7 @@ impl From<Code> for u8 {
 impl TryFrom<u8> for Code {
     type Error = NoCode;
 
-    ghost try_from_gives = { λ byte r. MatchResult r (λ code. code_at byte ≡ Some code) (λ _. code_at byte ≡ None) };
+    ghost try_from_gives = { λ byte r. MatchResult r (λ code. code_byte code ≡ byte) (λ _. HasNoCode byte) };
 
     fn try_from(byte: u8) -> Result<Code, NoCode> {
         match byte {

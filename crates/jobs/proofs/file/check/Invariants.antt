@@ -7,10 +7,10 @@ use Rattle.jobs.specs.Passes.{checked_of}
 use Rattle.jobs.proofs.Items.{parsed_at}
 use Rattle.jobs.proofs.file.check.Given as goal
 
-abbrev pub invariant-loop-code : goal.invariant-loop-code
-invariant-loop-code l =
+abbrev pub invariant-loop-command : goal.invariant-loop-command
+invariant-loop-command l =
     (l.at ≤ length l.job) × (l.total ≤ 92 * l.at) × (length l.job ≤ 16384)
     × (checked_of 0 (file_of l.job) ≡ checked_of l.total (parsed_at l.job l.at))
 
-abbrev pub decreases-loop-code : goal.decreases-loop-code
-decreases-loop-code l = length l.job - l.at
+abbrev pub decreases-loop-command : goal.decreases-loop-command
+decreases-loop-command l = length l.job - l.at

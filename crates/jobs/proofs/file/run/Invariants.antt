@@ -9,13 +9,13 @@ use Rattle.jobs.specs.Passes.{Fitting, filled}
 use Rattle.jobs.proofs.Items.{parsed_at}
 use Rattle.jobs.proofs.file.run.Given as goal
 
-abbrev pub invariant-loop-code : goal.invariant-loop-code
-invariant-loop-code l =
+abbrev pub invariant-loop-command : goal.invariant-loop-command
+invariant-loop-command l =
     (l.at ≤ length l.job)
     × (l.out ≤ length l.initial.reply)
     × (length l.reply ≡ length l.initial.reply)
     × Fitting (parsed_at l.job l.at) (length l.initial.reply - l.out)
     × (filled unset (file_of l.job) l.initial.reply ≡ take l.out l.reply ++ filled l.state (parsed_at l.job l.at) (drop l.out l.reply))
 
-abbrev pub decreases-loop-code : goal.decreases-loop-code
-decreases-loop-code l = length l.job - l.at
+abbrev pub decreases-loop-command : goal.decreases-loop-command
+decreases-loop-command l = length l.job - l.at
