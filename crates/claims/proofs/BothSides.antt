@@ -1,4 +1,5 @@
 -- Both sides of each "exactly when" (specs/BothSides.antt), each by its theorem; what it asks of the example is computed.
+use Rattle.std.specs.Prelude.{None, Ok, Err}
 use lib.Ieee.{Float, of_bits, of_int, to_bits, neg, add, sub, mul, div, lt, le, ne}
 use lib.ListN.{length, get_or, length-replicate}
 use Prim.Native.Nat.{ℕ, zero, suc, ◌≤◌}
@@ -17,9 +18,8 @@ use Rattle.coo3d.specs.LonLats.{is_longitude, is_latitude, vec3_of}
 use Rattle.coo3d.specs.Points.{coo3_d, from_sph_coo, vect_of}
 use Rattle.coo3d.specs.declared.point.Coo3D.{Coo3D}
 use Rattle.crossing.specs.GreatArcs.{great_arc, passes_of}
-use Rattle.crossing.specs.Parallels.{strictly_between, first_that_passes, near_meridian, quadratic, rule_of, by_rule, crossing_by, crossing_of, intersect_parallel}
-use Rattle.crossing.specs.declared.parallel.Crossing.{Crossing}
-use Rattle.crossing.specs.declared.parallel.Crossing.TheVariants as crossing
+use Rattle.crossing.specs.Parallels.{Crossing, strictly_between, first_that_passes, near_meridian, quadratic, rule_of, by_rule, crossing_by, crossing_of, intersect_parallel}
+use Rattle.crossing.specs.declared.parallel.NoCrossing.TheVariants as crossing
 use Rattle.newton.specs.Slopes.{cone_of, terms_of, second_of, f_over_df_eqr, ratio_at}
 use Rattle.newton.specs.Regions.{cte_eqr}
 use Rattle.newton.specs.Walks.{limit_of, start_walk, going_of, step_of, walk_from, walk_of}
@@ -40,8 +40,7 @@ use Rattle.table.specs.Turns.{finite_from, flags_from, in_range_from, first_fail
 use Rattle.table.proofs.Steps.{step_bytes_lem}
 use Rattle.table.proofs.StatusTen.{status_ten}
 use Rattle.jobs.specs.Files.{file_of, run_file}
-use Rattle.jobs.specs.Passes.{checked_of}
-use Rattle.jobs.specs.declared.file.Checked.TheVariants as check
+use Rattle.jobs.specs.Passes.{accepted as accepts, checked_of}
 use Rattle.claims.specs.Alike.{allowances_from, is_allowance, Alike}
 use Rattle.claims.specs.TwoFiles.{Accepted, begun_in}
 use Rattle.claims.specs.EachReply.{Told, told_in, EachPair, no_pair, pair, OfEachPair, steps_told, Fewer}
@@ -171,7 +170,7 @@ sides_of_replies =
     }
 
 -- ---- two runs
-checked : (n : ℕ) → checked_of 0 (file_of (job_with n)) ≡ check.Accepted 16
+checked : (n : ℕ) → checked_of 0 (file_of (job_with n)) ≡ accepts 16
 unfolding file_of operand_width answer_width width_in row_of precision allowance cone_in_eqr float_bytes bytes
 checked n = refl
 
@@ -210,9 +209,9 @@ unfolding float_at word_at little float_bytes bytes to_bits of_bits
 second_end_lem = (points.1, points.2)
 
 abbrev is_kind5 : Crossing → Bool
-is_kind5 (crossing.At v) = false
-is_kind5 crossing.NotBetween = false
-is_kind5 crossing.NoRoot = true
+is_kind5 (Ok v) = false
+is_kind5 (Err crossing.NotBetween) = false
+is_kind5 (Err crossing.NoRoot) = true
 
 -- the crossing with −T: of kind 5 from pole to pole, and not from the pole to the equator
 crossings : NeededOfKind5 (neg transition_z) south_pole north_pole
@@ -237,7 +236,7 @@ to_equator = upwards plus_zero on_equator second_end_lem.1 refl
 
 -- none of 6 to 9 refuses it
 abbrev Taken : Float → Type 0
-Taken lat = refusal_of (row_of 3) (given_of ready) (from_south_pole lat) ≡ 0
+Taken lat = refusal_of (row_of 3) (given_of ready) (from_south_pole lat) ≡ None
 
 taken : Taken half_pi × Taken plus_zero
 unfolding row_of arc given_of with_precision with_allowance needs_settings refusal_of first_failing finite_from flags_from in_range_from finite_of is_longitude is_latitude float_at word_at little float_bytes bytes of_bits to_bits neg lt le

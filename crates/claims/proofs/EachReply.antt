@@ -1,11 +1,12 @@
 -- Reply by reply, for any two job files that are alike: the claims of specs/EachReply.antt. Pair by pair of two lists of commands, at states that stay alike: the
 -- law of one command holds, its step bytes are the step counts of its slots, and what these tell is known of any plans.
+use Rattle.std.specs.Prelude.{Option}
 use Prim.Native.Nat.{ℕ}
 use mathlib.Core.Path.{◌≡◌, refl, ap}
 use mathlib.Core.List.{List, [], ◌∷◌}
 use Rattle.plans.specs.Plans.{slots_of, steps_at}
 use Rattle.plans.proofs.PlanAllowances.{ended_of_plans, steps_of_plans}
-use Rattle.table.specs.States.{unset, Allowance, allowance_of}
+use Rattle.table.specs.States.{unset, most_steps}
 use Rattle.table.specs.Turns.{plans_in, plans_of, walks_of, reply_of, after}
 use Rattle.table.specs.CommandAllowances.{Like, LikeOperands}
 use Rattle.table.specs.Steps.{step_byte}
@@ -21,11 +22,11 @@ use Rattle.claims.specs.EachReply.{Told, told, told_from, replies_told, begun_to
 use Rattle.claims.proofs.Alike.{alike_commands}
 
 -- ---- the parts of a file
-replies_told_lem : (last : Allowance) (s : State) (cs : List Command) → replies_told (told_from last s cs) ≡ replies_from s cs
+replies_told_lem : (last : Option ℕ) (s : State) (cs : List Command) → replies_told (told_from last s cs) ≡ replies_from s cs
 replies_told_lem last s [] = refl
 replies_told_lem last s (c ∷ cs) = rw (replies_told_lem (last_after last c) (leaves s c) cs)
 
-begun_told_lem : (last : Allowance) (s : State) (cs : List Command) → begun_told (told_from last s cs) ≡ begun_from last s cs
+begun_told_lem : (last : Option ℕ) (s : State) (cs : List Command) → begun_told (told_from last s cs) ≡ begun_from last s cs
 unfolding walks_of
 begun_told_lem last s [] = refl
 begun_told_lem last s (c ∷ cs) = rw (begun_told_lem (last_after last c) (leaves s c) cs)
@@ -36,10 +37,10 @@ parts_of_file job =
     let cs = commands_in (file_of job) in record { of_replies = replies_told_lem _ unset cs; of_walks = begun_told_lem _ unset cs }
 
 -- ---- what one run tells of each walk
-ended : (s : State) (c : Command) → Ended (told (allowance_of s) s c)
-ended s c i = rw (step_bytes_lem s c.code c.operands i) (ended_of_plans (plans_of s c.code c.operands) s.allowance i)
+ended : (s : State) (c : Command) → Ended (told s.allowance s c)
+ended s c i = rw (step_bytes_lem s c.code c.operands i) (ended_of_plans (plans_of s c.code c.operands) (most_steps s.allowance) i)
 
-all_ended : (s : State) (cs : List Command) → OfEach Ended (told_from (allowance_of s) s cs)
+all_ended : (s : State) (cs : List Command) → OfEach Ended (told_from s.allowance s cs)
 all_ended s [] = tt
 all_ended s (c ∷ cs) = (ended s c, rw (last_after_lem s c) (all_ended (leaves s c) cs))
 
@@ -53,14 +54,14 @@ record Both (t u : Told) : Type 0 where
   tells : Tells t u
 
 module _ (s t : State) (code : ℕ) (b d : List ℕ) (l : Like s t) (o : LikeOperands code b d) where
-  both : Both (told (allowance_of s) s (command code b)) (told (allowance_of t) t (command code d))
+  both : Both (told s.allowance s (command code b)) (told t.allowance t (command code d))
   unfolding walks_of
   both =
       let k = command_allowances s t code b d l o in
       let e : plans_of s code b ≡ plans_of t code d = ap plans_in k.same_work in
-      let p = steps_of_plans (plans_of s code b) s.allowance t.allowance in
-      let first : (i : ℕ) → step_byte i code (reply_of s code b) ≡ steps_at i (slots_of s.allowance (plans_of s code b)) = step_bytes_lem s code b in
-      let second : (i : ℕ) → step_byte i code (reply_of t code d) ≡ steps_at i (slots_of t.allowance (plans_of s code b)) = λ i. rw e (step_bytes_lem t code d i) in
+      let p = steps_of_plans (plans_of s code b) (most_steps s.allowance) (most_steps t.allowance) in
+      let first : (i : ℕ) → step_byte i code (reply_of s code b) ≡ steps_at i (slots_of (most_steps s.allowance) (plans_of s code b)) = step_bytes_lem s code b in
+      let second : (i : ℕ) → step_byte i code (reply_of t code d) ≡ steps_at i (slots_of (most_steps t.allowance) (plans_of s code b)) = λ i. rw e (step_bytes_lem t code d i) in
       record {
         replies = record { same_code = refl; same_plans = e; law = k.law };
         steps = λ i. rw (first i, second i) (p.of_slot i);
@@ -74,7 +75,7 @@ module _ (s t : State) (code : ℕ) (b d : List ℕ) (l : Like s t) (o : LikeOpe
 along : {s t : State} {cs ds : List Command}
     → Like s t
     → LikeCommands cs ds
-    → EachPair Both (told_from (allowance_of s) s cs) (told_from (allowance_of t) t ds)
+    → EachPair Both (told_from s.allowance s cs) (told_from t.allowance t ds)
 along l none = no_pair
 along {s} {t} l (one {code = code} {b = b} {d = d} o h) =
     let k = command_allowances s t code b d l o in

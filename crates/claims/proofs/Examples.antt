@@ -1,4 +1,5 @@
 -- Document 01's starred examples (`Examples`, specs/Examples.antt), computed by antt.
+use Rattle.std.specs.Prelude.{Ok}
 use lib.Dec.{eqb}
 use lib.Ieee.{Float, binary64, of_bits, to_bits, neg, round, lt, le, eq, ne, mul}
 use lib.ListN.{get_or}
@@ -74,28 +75,30 @@ work_taken code k = simp k.not_refused
 module _ {z precision : Float} {b : List ℕ} where
   reply_in_eqr : Taken 4 z precision b
       → reply_of (with_no_steps precision) 4 b
-      ≡ reply_bytes 4 (Cone (slot_at 0 (cone_plan_in_eqr z (float_at b 1) (float_at b 2) (eqb (get_or b 24 0) 1) precision)))
+      ≡ reply_bytes 4 (Ok (Cone (slot_at 0 (cone_plan_in_eqr z (float_at b 1) (float_at b 2) (eqb (get_or b 24 0) 1) precision))))
   unfolding reply_of turn_of row_of cone_in_eqr given_of with_precision with_allowance reply_in
   reply_in_eqr k =
       ap (λ (w : Work). reply_bytes 4 (reply_in 0 w)) (work_taken 4 k)
       ∙ ap
-      (λ (x : Float). reply_bytes 4 (Cone (slot_at 0 (cone_plan_in_eqr x (float_at b 1) (float_at b 2) (eqb (get_or b 24 0) 1) precision))))
+      (λ (x : Float). reply_bytes 4 (Ok (Cone (slot_at 0 (cone_plan_in_eqr x (float_at b 1) (float_at b 2) (eqb (get_or b 24 0) 1) precision)))))
       k.of_height
 
   reply_in_pc : Taken 5 z precision b
       → reply_of (with_no_steps precision) 5 b
       ≡ reply_bytes 5
+      (Ok
       (Cone
       (slot_at 0
-      (cone_plan_in_pc z (float_at b 1) (float_at b 2) (float_at b 3) (eqb (get_or b 32 0) 1) (eqb (get_or b 33 0) 1) precision)))
+      (cone_plan_in_pc z (float_at b 1) (float_at b 2) (float_at b 3) (eqb (get_or b 32 0) 1) (eqb (get_or b 33 0) 1) precision))))
   unfolding reply_of turn_of row_of cone_in_pc given_of with_precision with_allowance reply_in
   reply_in_pc k =
       ap (λ (w : Work). reply_bytes 5 (reply_in 0 w)) (work_taken 5 k)
       ∙ ap
       (λ (x : Float). reply_bytes 5
+      (Ok
       (Cone
       (slot_at 0
-      (cone_plan_in_pc x (float_at b 1) (float_at b 2) (float_at b 3) (eqb (get_or b 32 0) 1) (eqb (get_or b 33 0) 1) precision))))
+      (cone_plan_in_pc x (float_at b 1) (float_at b 2) (float_at b 3) (eqb (get_or b 32 0) 1) (eqb (get_or b 33 0) 1) precision)))))
       k.of_height
 
 taken_at_half : (precision : Float) → Taken 4 half precision (float_bytes half ++ float_bytes plus_zero ++ float_bytes one ++ 1 ∷ [])

@@ -1,4 +1,5 @@
 -- The examples of specs/TwoArcsExamples.antt, computed; status 12 by its theorem.
+use Rattle.std.specs.Prelude.{None}
 use lib.Ieee.{Float, of_bits, of_int, to_bits, round, neg, add, sub, mul, div, lt, le, eq, ne}
 use Prim.Native.Nat.{ℕ}
 use mathlib.Core.Path.{◌≡◌, refl, sym, ◌∙◌}
@@ -28,7 +29,7 @@ two_arcs_examples = record { candidate = refl; opposite = refl; neither = refl; 
 
 -- neither 7 nor 9 refuses any of the three pairs
 abbrev Taken : List ℕ → Type 0
-Taken b = refusal_of (row_of 7) (given_of unset) b ≡ 0
+Taken b = refusal_of (row_of 7) (given_of unset) b ≡ None
 
 taken : Taken (along ++ onwards) × Taken (tiny_along ++ tiny_up) × Taken (along ++ up)
 unfolding row_of two_arcs given_of refusal_of first_failing finite_from flags_from in_range_from finite_of is_longitude is_latitude float_at word_at little float_bytes bytes of_bits to_bits neg lt le

@@ -1,17 +1,17 @@
 -- One example on either side of each "exactly when": a walk, demand 3 of files and of replies, and status 10. `proofs/BothSides.antt` gets each by applying
 -- the theorem, so that what it asks is met by something. Definitions and claims.
-use Rattle.std.specs.Prelude.{Float, replicate, ℕ, ◌≡◌, false, List, [], ◌∷◌, ◌++◌}
+use Rattle.std.specs.Prelude.{Float, replicate, ℕ, ◌≡◌, false, List, [], ◌∷◌, ◌++◌, None, Some}
 use Rattle.std.specs.Float.Ieee.{neg}
 use Rattle.angles.specs.Floats.{◌⊕◌, plus_zero, one}
 use Rattle.angles.specs.Constants.{half, half_pi}
 use Rattle.newton.specs.Regions.{cte_eqr}
 use Rattle.newton.specs.Walks.{limit_of, walk_of}
-use Rattle.newton.specs.declared.slope.Slope.TheVariants.{Equatorial}
+use Rattle.newton.specs.Slopes.{equatorial}
 use Rattle.newton.specs.declared.walk.Start.{Start}
 use Rattle.words.specs.Words.{float_bytes}
 use Rattle.plans.specs.PlanAllowances.{AllEndWithin}
 use Rattle.special_points_finder.specs.Cones.{cone_of_radius}
-use Rattle.table.specs.States.{unset, no_allowance, set_to, given_of, with_precision, with_allowance}
+use Rattle.table.specs.States.{unset, given_of, with_precision, with_allowance}
 use Rattle.table.specs.Table.{row_of}
 use Rattle.table.specs.Turns.{refusal_of, reply_of}
 use Rattle.table.specs.StatusTen.{status_byte}
@@ -31,7 +31,7 @@ job_with allowance =
 
 -- the walk that decides: its first step, of 0.007, ends it
 abbrev pub walk : Start
-walk = record { slope = Equatorial (cone_of_radius half radius) (cte_eqr false); limit = limit_of one radius; z = half }
+walk = record { slope = equatorial (cone_of_radius half radius) (cte_eqr false); limit = limit_of one radius; z = half }
 
 -- it ends by itself within 1, and not within 0
 pub record SidesOfWalk : Type 0 where
@@ -56,14 +56,14 @@ pub record SidesOfTwoRuns : Type 0 where
 
 -- the replies of one such file, the cone's the third
 abbrev pub of_precision : Told
-of_precision = told no_allowance unset (command 1 (float_bytes one))
+of_precision = told None unset (command 1 (float_bytes one))
 
 abbrev pub of_allowance : ℕ → Told
-of_allowance allowance = told no_allowance (with_precision unset one) (command 2 (allowance ∷ []))
+of_allowance allowance = told None (with_precision unset one) (command 2 (allowance ∷ []))
 
 abbrev pub of_cone : ℕ → Told
 of_cone allowance =
-    told (set_to allowance) (with_allowance (with_precision unset one) allowance)
+    told (Some allowance) (with_allowance (with_precision unset one) allowance)
     (command 4 (float_bytes half ++ float_bytes half ++ float_bytes radius ++ 0 ∷ []))
 
 -- Its one step is below the allowance 2: its reply is the same for 1, and another for 0.
@@ -88,5 +88,5 @@ ready = with_allowance (with_precision unset one) 1
 -- Two poles tell no plane, so neither root of the crossing with −T passes. To the equator one does: that arc is not refused either, and its status isn't 10.
 pub record SidesOfStatusTen : Type 0 where
   pub ten : status_byte (reply_of ready 3 (from_south_pole half_pi)) ≡ 10
-  pub taken : refusal_of (row_of 3) (given_of ready) (from_south_pole plus_zero) ≡ 0
+  pub taken : refusal_of (row_of 3) (given_of ready) (from_south_pole plus_zero) ≡ None
   pub not_ten : status_byte (reply_of ready 3 (from_south_pole plus_zero)) ≡ 10 → ⊥

@@ -1,10 +1,10 @@
 -- Which replies depend on the allowance: demand 3 reply by reply and slot by slot, and what the steps in one reply tell. `./finder depends` rests on it.
 -- Definitions and claims; `proofs/EachReply.antt` proves them, and specs/BothSides.antt has files that meet each premise, on either side.
-use Rattle.std.specs.Prelude.{ℕ, ◌≤◌, ◌<◌, ◌≡◌, ◌↔◌, List, [], ◌∷◌, ◌++◌}
+use Rattle.std.specs.Prelude.{ℕ, ◌≤◌, ◌<◌, ◌≡◌, ◌↔◌, List, [], ◌∷◌, ◌++◌, Option, None}
 use Rattle.plans.specs.Plans.{walks_in, walks_at}
 use Rattle.plans.specs.PlanAllowances.{AllEqualOrEnd, AllEndWithin}
 use Rattle.plans.specs.declared.plan.Plan.{Plan}
-use Rattle.table.specs.States.{unset, Allowance, no_allowance}
+use Rattle.table.specs.States.{unset, most_steps}
 use Rattle.table.specs.Turns.{reply_of, plans_of}
 use Rattle.table.specs.Steps.{step_byte}
 use Rattle.table.specs.declared.state.State.{State}
@@ -21,22 +21,22 @@ pub record Told : Type 0 where
   pub allowance : ℕ
   pub plans : List Plan
 
-abbrev pub told : Allowance → State → Command → Told
+abbrev pub told : Option ℕ → State → Command → Told
 told last s c =
     record {
       code = c.code;
       reply = reply_of s c.code c.operands;
-      allowance = last.value;
+      allowance = most_steps last;
       plans = plans_of s c.code c.operands;
     }
 
-abbrev pub told_from : Allowance → State → List Command → List Told
+abbrev pub told_from : Option ℕ → State → List Command → List Told
 told_from last s [] = []
 told_from last s (c ∷ cs) = told last s c ∷ told_from (last_after last c) (leaves s c) cs
 
 -- of a job file, in the order of its commands; a refused one has none
 abbrev pub told_in : List ℕ → List Told
-told_in job = told_from no_allowance unset (commands_in (file_of job))
+told_in job = told_from None unset (commands_in (file_of job))
 
 -- All their replies are the reply file, and all their walks are those of demand 3.
 abbrev pub replies_told : List Told → List ℕ

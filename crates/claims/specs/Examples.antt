@@ -1,6 +1,6 @@
 -- Document 01, "Examples": the starred ones, as one joint fact of the specification. Those of the root stand in root/specs/RootExamples.antt.
 -- Definitions and the claim; `proofs/Examples.antt` has it computed.
-use Rattle.std.specs.Prelude.{Float, replicate, ℕ, ◌≡◌, true, false, List, [], ◌∷◌, ◌++◌}
+use Rattle.std.specs.Prelude.{Float, replicate, ℕ, ◌≡◌, true, false, List, [], ◌∷◌, ◌++◌, None}
 use Rattle.std.specs.Float.{nan, binary64}
 use Rattle.std.specs.Float.Ieee.{neg, round}
 use Rattle.root_rule.specs.RootExamples.{RootExamples}
@@ -35,7 +35,7 @@ with_no_steps precision = with_allowance (with_precision unset precision) 0
 -- a command of this code and these operands, that none of 6 to 9 refuses, with z for its first operand
 pub record Taken (code : ℕ) (z precision : Float) (b : List ℕ) : Type 0 where
   pub of_height : float_at b 0 ≡ z
-  pub not_refused : refusal_of (row_of code) (given_of (with_no_steps precision)) b ≡ 0
+  pub not_refused : refusal_of (row_of code) (given_of (with_no_steps precision)) b ≡ None
 
 abbrev pub Replies : ℕ → Float → List ℕ → Type 0
 Replies code z reply = (precision : Float) (b : List ℕ) → Taken code z precision b → reply_of (with_no_steps precision) code b ≡ reply

@@ -1,6 +1,6 @@
 -- Document 02, ask 3, by example: a candidate and its opposite answered, neither, the far side of a long arc, and status 12 on either side of its "exactly
 -- when". Definitions and claims; `proofs/TwoArcsExamples.antt` has them computed.
-use Rattle.std.specs.Prelude.{Float, replicate, ℕ, ◌≡◌, false, List, ◌∷◌, ◌++◌}
+use Rattle.std.specs.Prelude.{Float, replicate, ℕ, ◌≡◌, false, List, ◌∷◌, ◌++◌, None}
 use Rattle.std.specs.Float.{binary64}
 use Rattle.std.specs.Float.Ieee.{neg, of_bits, round}
 use Rattle.angles.specs.Floats.{of_nat, plus_zero, one}
@@ -58,5 +58,5 @@ pub record TwoArcsExamples : Type 0 where
 pub record SidesOfStatusTwelve : Type 0 where
   pub one_circle : status_byte (reply_to (along ++ onwards)) ≡ 12
   pub underflow : status_byte (reply_to (tiny_along ++ tiny_up)) ≡ 12
-  pub taken : refusal_of (row_of 7) (given_of unset) (along ++ up) ≡ 0
+  pub taken : refusal_of (row_of 7) (given_of unset) (along ++ up) ≡ None
   pub not_twelve : status_byte (reply_to (along ++ up)) ≡ 12 → ⊥

@@ -1,6 +1,6 @@
 -- Document 02, ask 3, of what the finder replies: when the status is 12, and what code 07 has to do with the settings. Definitions and claims;
 -- `proofs/TwoArcsReplies.antt` proves them.
-use Rattle.std.specs.Prelude.{replicate, ℕ, ◌≡◌, ◌↔◌, true, List, [], ◌∷◌}
+use Rattle.std.specs.Prelude.{replicate, ℕ, ◌≡◌, ◌↔◌, true, List, [], ◌∷◌, None}
 use Rattle.coo3d.specs.Vectors.{norm_of}
 use Rattle.two_arcs.specs.TwoArcs.{cross_of_arcs, zero_or_nan}
 use Rattle.table.specs.States.{given_of}
@@ -12,7 +12,7 @@ use Rattle.table.specs.declared.state.State.{State}
 -- The command is two arcs that neither 7 nor 9 refuses, and "the cross product of the two arcs' cross products has norm zero or NaN".
 pub record ArcsWithoutCandidate (s : State) (code : ℕ) (b : List ℕ) : Type 0 where
   pub is_two_arcs : code ≡ 7
-  pub not_refused : refusal_of (row_of code) (given_of s) b ≡ 0
+  pub not_refused : refusal_of (row_of code) (given_of s) b ≡ None
   pub no_candidate : zero_or_nan (norm_of (cross_of_arcs (first_arc b) (second_arc b))) ≡ true
 
 -- Whatever the state and the operands, the status is 12 if and only if that holds.
