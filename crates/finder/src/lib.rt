@@ -19,10 +19,18 @@ use root::patterns;
 pub extern "C" fn finder_run(job: &[u8], reply: &mut [u8], place: &mut u64, written: &mut u64) -> u8
     ensures { ran result place.new written.new reply.new ≡ run_file job.now reply.old }
 {
-    let o = file::run_file(job, reply);
-    *place = o.place as u64;
-    *written = o.written as u64;
-    o.number
+    match file::run_file(job, reply) {
+        Ok(bytes) => {
+            *place = job.len() as u64;
+            *written = bytes as u64;
+            0
+        }
+        Err(refusal) => {
+            *place = refusal.place as u64;
+            *written = 0;
+            u8::from(refusal.reason)
+        }
+    }
 }
 
 // The square root on bit patterns, for every pattern; a NaN answer is 7FF8000000000000.
