@@ -3,10 +3,9 @@
 
 #![tactic(auto)]
 
-ghost use Rattle.std.specs.Prelude.{◌≤◌, ◌<◌};
+ghost use Rattle.std.specs.Prelude.{◌≤◌};
 
 use jobs::file;
-use words::output;
 
 const STDIN: i32 = 0;
 
@@ -18,79 +17,85 @@ const MOST: usize = 100000;
 // What the reply buffer holds before each run.
 const MARK: u8 = 0xa5;
 
-// What came of a turn: whether there was a job file, and whether it was answered as stored.
+// A record's head: how long the job file and the reply buffer are, and what the run answers.
 #[derive(Clone, Copy)]
-pub struct Turn {
-    replayed: bool,
-    agrees: bool,
+struct Head {
+    length: usize,
+    room: usize,
+    number: usize,
+    place: usize,
+    written: usize,
 }
 
-fn wide(x: u8) -> usize
-    ensures { result < 256 }
+// A fixed size each, as no heap is used.
+#[derive(Drop)]
+struct Buffers {
+    job: [u8; 16385],
+    answer: [u8; 65536],
+    reply: [u8; 65536],
+}
+
+fn number_at(head: &[u8; 20], at: usize) -> usize
+    requires { at ≤ 16 }
 {
-    x as usize
+    u32::from_le_bytes([head[at], head[at + 1], head[at + 2], head[at + 3]]) as usize
 }
 
-// The k-th number of a record's head: job length, buffer length, number, place, bytes written.
-fn number_at(head: &[u8; 20], k: usize) -> usize
-    requires { k < 5 }
-{
-    let at = 4 * k;
-    wide(head[at])
-        + 256 * wide(head[at + 1])
-        + 65536 * wide(head[at + 2])
-        + 16777216 * wide(head[at + 3])
+impl From<[u8; 20]> for Head {
+    fn from(head: [u8; 20]) -> Head {
+        Head {
+            length: number_at(&head, 0),
+            room: number_at(&head, 4),
+            number: number_at(&head, 8),
+            place: number_at(&head, 12),
+            written: number_at(&head, 16),
+        }
+    }
 }
 
-// The next n bytes of the input, to the front of a buffer.
-fn read_front(out: &mut [u8], n: usize) -> bool {
-    if out.len() < n {
-        return false;
+// The next n bytes of the input, where the buffer has room and the input has as many.
+fn read_part(buffer: &mut [u8], n: usize) -> Option<&[u8]> {
+    if buffer.len() < n {
+        return None;
     }
-    io::read_full(STDIN, &mut out[0..n]) == n
+    if io::read_full(STDIN, &mut buffer[0..n]) != n {
+        return None;
+    }
+    Some(&buffer[0..n])
 }
 
-fn same_part(a: &[u8], b: &[u8], from: usize, to: usize) -> bool {
-    if to < from {
+// Whether a job file is answered as stored, and no byte past the replies is changed.
+fn agrees(head: Head, job: &[u8], answer: &[u8], reply: &mut [u8]) -> bool {
+    if reply.len() < head.room {
         return false;
     }
-    if a.len() < to {
-        return false;
-    }
-    if b.len() < to {
-        return false;
-    }
-    check::same(&a[from..to], &b[from..to])
+    reply.fill(MARK);
+    let (number, place, written) = match file::run_file(job, &mut reply[0..head.room]) {
+        Ok(written) => (0, job.len(), written),
+        Err(refusal) => (u8::from(refusal.reason) as usize, refusal.place, 0),
+    };
+    (number == head.number)
+        & (place == head.place)
+        & (written == head.written)
+        & reply.starts_with(answer)
+        & reply.iter().skip(answer.len()).all(|&b| b == MARK)
 }
 
-// Whether a job file is answered as stored, and no byte past the replies is changed: `marks` holds marks alone.
-fn replay(head: &[u8; 20], job: &[u8], answer: &[u8], reply: &mut [u8], marks: &[u8]) -> bool {
-    let length = number_at(head, 0);
-    let room = number_at(head, 1);
-    if job.len() < length {
-        return false;
-    }
-    if reply.len() < room {
-        return false;
-    }
-    output::fill(reply, MARK);
-    let o = file::run_file(&job[0..length], &mut reply[0..room]);
-    let end = reply.len();
-    (wide(o.number) == number_at(head, 2))
-        & (o.place == number_at(head, 3))
-        & (o.written == number_at(head, 4))
-        & same_part(reply, answer, 0, o.written)
-        & same_part(reply, marks, o.written, end)
-}
-
-fn next(job: &mut [u8], answer: &mut [u8], reply: &mut [u8], marks: &[u8]) -> Turn {
-    let mut head = [0u8; 20];
-    let n = io::read_full(STDIN, &mut head);
-    let whole = read_front(job, number_at(&head, 0)) & read_front(answer, number_at(&head, 4));
-    let agrees = replay(&head, job, answer, reply, marks);
-    Turn {
-        replayed: n != 0,
-        agrees: (n == 20) & whole & agrees,
+impl Buffers {
+    // Whether the next job file is answered as stored; None at the end of the input.
+    fn next(&mut self) -> Option<bool> {
+        let mut head = [0u8; 20];
+        let n = io::read_full(STDIN, &mut head);
+        if n == 0 {
+            return None;
+        }
+        let head = Head::from(head);
+        let job = read_part(&mut self.job, head.length);
+        let answer = read_part(&mut self.answer, head.written);
+        let (Some(job), Some(answer)) = (job, answer) else {
+            return Some(false);
+        };
+        Some((n == 20) & agrees(head, job, answer, &mut self.reply))
     }
 }
 
@@ -104,34 +109,28 @@ fn report(replayed: usize, differ: usize) {
     say(differ, b" answered otherwise\n");
 }
 
-fn one_unless(agrees: bool) -> usize
-    ensures { result ≤ 1 }
-{
-    if agrees { 0 } else { 1 }
-}
-
-fn replay_all(job: &mut [u8], answer: &mut [u8], reply: &mut [u8], marks: &[u8]) {
-    let mut replayed = 0;
+fn replay_all(buffers: &mut Buffers) {
     let mut differ = 0;
-    while replayed < MOST {
-        let turn = next(job, answer, reply, marks);
-        if !turn.replayed {
-            report(replayed, differ);
-            return;
+    for replayed in 0..MOST {
+        match buffers.next() {
+            Some(true) => {}
+            Some(false) => differ += 1,
+            None => {
+                report(replayed, differ);
+                return;
+            }
         }
-        replayed += 1;
-        differ += one_unless(turn.agrees);
     }
-    report(replayed, differ);
+    report(MOST, differ);
 }
 
 fn main() {
     let mut text = [0u8; 512];
-    let mut job = [0u8; 16385];
-    let mut answer = io::large_buffer();
-    let mut reply = io::large_buffer();
-    let mut marks = io::large_buffer();
-    output::fill(&mut marks, MARK);
     io::read_full(STDIN, &mut text);
-    replay_all(&mut job, &mut answer, &mut reply, &marks);
+    let mut buffers = Buffers {
+        job: [0; 16385],
+        answer: [0; 65536],
+        reply: [0; 65536],
+    };
+    replay_all(&mut buffers);
 }
