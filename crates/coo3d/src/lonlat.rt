@@ -13,12 +13,14 @@ pub struct LonLat {
     pub lat: f64,
 }
 
+#[tactic(auto, unfolding(crate::specs::LonLats::is_longitude))]
 pub fn is_longitude(lon: f64) -> bool
     ensures { result ≡ is_longitude lon }
 {
     (0.0 <= lon) & (lon < Coo3D::TWO_PI)
 }
 
+#[tactic(auto, unfolding(crate::specs::LonLats::is_latitude))]
 pub fn is_latitude(lat: f64) -> bool
     ensures { result ≡ is_latitude lat }
 {
@@ -38,6 +40,7 @@ pub fn lon_of(x: f64, y: f64) -> f64
     }
 }
 
+#[tactic(auto, unfolding(crate::specs::LonLats::lat_of))]
 fn lat_of(v: Vect3) -> f64
     ensures { result ≡ lat_of v.x v.y v.z }
 {
@@ -54,6 +57,7 @@ pub fn lonlat_of(v: Vect3) -> LonLat
     }
 }
 
+#[tactic(auto, unfolding(crate::specs::LonLats::vec3_of))]
 pub fn vec3_of(lon: f64, lat: f64) -> Vect3
     ensures { result ≡ vec3_of lon lat }
 {

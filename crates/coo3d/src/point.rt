@@ -23,6 +23,7 @@ impl Coo3D {
     // Document 01's T.
     pub const TRANSITION_Z: f64 = 2.0 / 3.0;
 
+    #[tactic(auto, unfolding(crate::specs::Points::from_vec3))]
     pub fn from_vec3(v: Vect3) -> Coo3D
         ensures { result ≡ from_vec3 v.x v.y v.z }
     {
@@ -36,6 +37,7 @@ impl Coo3D {
         }
     }
 
+    #[tactic(auto, unfolding(crate::specs::Points::from_sph_coo))]
     pub fn from_sph_coo(lon: f64, lat: f64) -> Coo3D
         ensures { result ≡ from_sph_coo lon lat }
     {

@@ -12,12 +12,14 @@ pub struct Vect3 {
     pub z: f64,
 }
 
+#[tactic(auto, unfolding(crate::specs::Vectors::dot_of))]
 pub fn dot_product(v: Vect3, w: Vect3) -> f64
     ensures { result ≡ dot_of v w }
 {
     v.x * w.x + v.y * w.y + v.z * w.z
 }
 
+#[tactic(auto, unfolding(crate::specs::Vectors::cross_of))]
 pub fn cross_product(v: Vect3, w: Vect3) -> Vect3
     ensures { result ≡ cross_of v w }
 {
@@ -29,18 +31,21 @@ pub fn cross_product(v: Vect3, w: Vect3) -> Vect3
 }
 
 impl Vect3 {
+    #[tactic(auto, unfolding(crate::specs::Vectors::squared_norm_of))]
     pub fn squared_norm(self) -> f64
         ensures { result ≡ squared_norm_of self }
     {
         self.x * self.x + self.y * self.y + self.z * self.z
     }
 
+    #[tactic(auto, unfolding(crate::specs::Vectors::norm_of))]
     pub fn norm(self) -> f64
         ensures { result ≡ norm_of self }
     {
         root::root(self.squared_norm())
     }
 
+    #[tactic(auto, unfolding(crate::specs::Vectors::divided_by))]
     pub fn divided_by(self, n: f64) -> Vect3
         ensures { result ≡ divided_by self n }
     {
@@ -51,6 +56,7 @@ impl Vect3 {
         }
     }
 
+    #[tactic(auto, unfolding(crate::specs::Vectors::normalized_of))]
     pub fn normalized(self) -> Vect3
         ensures { result ≡ normalized_of self }
     {
@@ -58,6 +64,7 @@ impl Vect3 {
     }
 
     // The source's UnitVect3::new.
+    #[tactic(auto, unfolding(crate::specs::Vectors::new_unit))]
     pub fn new_unit(x: f64, y: f64, z: f64) -> Vect3
         ensures { result ≡ new_unit x y z }
     {
@@ -70,6 +77,7 @@ impl Vect3 {
         }
     }
 
+    #[tactic(auto, unfolding(crate::specs::Vectors::opposite_of))]
     pub fn opposite(self) -> Vect3
         ensures { result ≡ opposite_of self }
     {
