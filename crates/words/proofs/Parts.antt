@@ -1,22 +1,15 @@
 -- A buffer of which parts are lent and come back: a part in its middle, and parts one after the other from its start.
-use lib.ListN.{length, take, drop, length-append, length-take, length-drop, drop_of_length-le}
-use lib.Seq.{take_at, drop_at, drop-drop, length-take-le}
+use Rattle.std.proofs.Common.{length, take, drop, drop_of_length-le, drop-drop, length-append, length-take, length-drop, arith, ℕ, ◌+◌, ◌≤◌, ◌≡◌, refl, ◌∙◌, List, [], ◌++◌, append-nil, append_assoc}
+use Rattle.std.proofs.lemmas.List.{take_at, drop_at}
+use Rattle.std.proofs.lemmas.Slice.{take-put_mid, drop-put_mid}
 use borrow.Rule.Slice.PartMut.{put_mid}
-use Prim.Native.Nat.{ℕ, ◌+◌, ◌≤◌}
-use native.Mathlib.Omega.{arith}
-use mathlib.Core.Path.{◌≡◌, refl, ◌∙◌}
-use mathlib.Core.List.{List, [], ◌++◌, append-nil, append_assoc}
 
 -- a part that came back, up to its end and past it
-module _ (xs ys : List ℕ) (a k : ℕ) (h : a + k ≤ length xs) (l : length ys ≡ k) where
-  up : length (take a xs ++ ys) ≡ a + k
-  up = length-append (take a xs) ys ∙ rw (length-take-le a xs (omega arith), l) refl
+pub take_mid : (xs ys : List ℕ) (a k : ℕ) → a + k ≤ length xs → length ys ≡ k → take (a + k) (put_mid a k xs ys) ≡ take a xs ++ ys
+take_mid xs ys a k h l = take-put_mid a k xs ys (a + k) (omega arith) (omega arith)
 
-  pub take_mid : take (a + k) (put_mid a k xs ys) ≡ take a xs ++ ys
-  take_mid = rw (← append_assoc) (take_at (take a xs ++ ys) (drop k (drop a xs)) (a + k) up)
-
-  pub drop_mid : drop (a + k) (put_mid a k xs ys) ≡ drop k (drop a xs)
-  drop_mid = rw (← append_assoc) (drop_at (take a xs ++ ys) (drop k (drop a xs)) (a + k) up)
+pub drop_mid : (xs ys : List ℕ) (a k : ℕ) → a + k ≤ length xs → length ys ≡ k → drop (a + k) (put_mid a k xs ys) ≡ drop k (drop a xs)
+drop_mid xs ys a k h l = drop-put_mid a k xs ys (a + k) (omega arith) (omega arith) l ∙ rw drop-drop refl
 
 pub length_mid : (a k : ℕ) (xs ys : List ℕ) → a + k ≤ length xs → length ys ≡ k → length (put_mid a k xs ys) ≡ length xs
 length_mid a k xs ys h e = simp (length-append, length-take, length-drop) (omega arith)

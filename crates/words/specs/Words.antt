@@ -1,5 +1,5 @@
 -- Document 01, "Jobs and replies": little-endian; f64 by its bits. Definitions only.
-use Rattle.std.specs.Prelude.{Float, get_or, take, drop, ℕ, zero, suc, ◌+◌, ◌*◌, ◌/◌, ◌%◌, List, [], ◌∷◌}
+use Rattle.std.specs.Prelude.{Float, take, drop, ℕ, zero, suc, ◌+◌, ◌*◌, ◌/◌, ◌%◌, List, [], ◌∷◌}
 use Rattle.std.specs.Float.{binary64}
 use Rattle.std.specs.Float.Ieee.{of_bits, to_bits}
 
@@ -7,12 +7,6 @@ use Rattle.std.specs.Float.Ieee.{of_bits, to_bits}
 unfoldable pub little : List ℕ → ℕ
 little [] = 0
 little (b ∷ bs) = b + 256 * little bs
-
--- the same of eight bytes, as the code sums them
-abbrev pub word8 : List ℕ → ℕ
-word8 s =
-    get_or s 0 0 + 256 * get_or s 1 0 + 65536 * get_or s 2 0 + 16777216 * get_or s 3 0
-    + 4294967296 * (get_or s 4 0 + 256 * get_or s 5 0 + 65536 * get_or s 6 0 + 16777216 * get_or s 7 0)
 
 -- the lowest n bytes of a number, the lowest first
 unfoldable pub bytes : ℕ → ℕ → List ℕ

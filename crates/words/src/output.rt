@@ -20,27 +20,15 @@ pub fn put_two(out: &mut [u8], a: u8, b: u8)
     out[1] = b;
 }
 
+#[tactic(auto, using(crate::proofs::Eight::bytes_eight))]
 fn put_word(out: &mut [u8], x: u64)
     requires { length out.old ≡ 8 }
     ensures { out.new ≡ bytes 8 x }
 {
-    let x1 = x / 256;
-    let x2 = x1 / 256;
-    let x3 = x2 / 256;
-    let x4 = x3 / 256;
-    let x5 = x4 / 256;
-    let x6 = x5 / 256;
-    let x7 = x6 / 256;
-    out[0] = (x % 256) as u8;
-    out[1] = (x1 % 256) as u8;
-    out[2] = (x2 % 256) as u8;
-    out[3] = (x3 % 256) as u8;
-    out[4] = (x4 % 256) as u8;
-    out[5] = (x5 % 256) as u8;
-    out[6] = (x6 % 256) as u8;
-    out[7] = (x7 % 256) as u8;
+    out.copy_from_slice(&x.to_le_bytes());
 }
 
+#[tactic(auto, unfolding(crate::specs::Words::float_bytes))]
 pub fn put_float(out: &mut [u8], x: f64)
     requires { length out.old ≡ 8 }
     ensures { out.new ≡ float_bytes x }
@@ -51,9 +39,5 @@ pub fn put_float(out: &mut [u8], x: f64)
 pub fn fill(out: &mut [u8], a: u8)
     ensures { out.new ≡ replicate (length out.old) a }
 {
-    let mut i = 0;
-    while i < out.len() {
-        out[i] = a;
-        i += 1;
-    }
+    out.fill(a);
 }

@@ -1,18 +1,14 @@
--- The part that is read has eight bytes, whose sum is what they stand for.
-use lib.ListN.{take, drop, length-take, length-drop}
-use Prim.Native.Nat.{ℕ, ◌+◌, ◌*◌, ◌-◌}
-use native.Mathlib.Nat.{add-sub_cancel_left}
-use native.Mathlib.Omega.{arith}
-use mathlib.Core.Path.{ap, ◌∙◌}
+-- The eight bytes that are read are the k-th operand's.
+use Rattle.std.proofs.Common.{length, take, drop, take_all, length-drop, arith, ℕ, ◌-◌, ◌≡◌, ap, ◌∙◌, List}
 use Rattle.words.specs.Words.{little, word_at}
-use Rattle.words.proofs.Eight.{little8}
+use Rattle.words.proofs.Eight.{little_first}
 use Rattle.words.proofs.input.word_at.Goals as goal
+
+rest : (s : List ℕ) (n : ℕ) → take (length s - n) (drop n s) ≡ drop n s
+rest s n = take_all (length s - n) (drop n s) (rw length-drop (omega arith))
 
 pub returns : goal.returns
 unfolding word_at
 returns c =
-    let a = c.args in
-    let part = drop (8 * a.k) a.operands.now in
-    c.word.ensures
-    ∙ little8 (take (8 * a.k + 8 - 8 * a.k) part) (simp (length-take, length-drop) (omega arith))
-    ∙ ap (λ (n : ℕ). little (take n part)) (add-sub_cancel_left (8 * a.k) 8)
+    let h = rw c.unwrap-word.ensures at c.first_chunk.ensures.cases in
+    c.from_le_bytes.ensures ∙ little_first _ _ h ∙ ap (λ s. little (take 8 s)) (rest c.args.operands.now _)
