@@ -8,6 +8,7 @@ use mathlib.Core.Path.{◌≡◌, refl, sym, ap, subst, ◌∙◌}
 use mathlib.Core.Logic.{◌⊎◌, inl, inr}
 use mathlib.Core.Bool.{Bool, true, false, cond, ◌&&◌}
 use mathlib.Core.List.{List, [], ◌∷◌}
+use Rattle.std.specs.Prelude.{None, Some}
 use Rattle.command_patterns.specs.Patterns.{all_codes, is_pattern, ComesBefore, count, number_from, rank, digits, pattern_at, patterns_from, patterns}
 use Rattle.command_patterns.specs.Listing.{line_feed, code_then, line, listing, digit_of, number_in, printed}
 use Rattle.command_patterns.specs.Laws.{Stands, EachAtItsRank, NoOther, ListedInOrder, AsManyAsCounted, LineShowsPattern, RankGivesBack, RankOfEach, LowerComesFirst, ThreeBytesDecide, TenInputs, PatternExamples}
@@ -127,39 +128,43 @@ line_shows_pattern (c ∷ p) (d ∷ q) e =
 
 -- ---- inputs
 module _ (d n : ℕ) where
-  digit_if : (a b : Bool) → (a ≡ true → 49 ≤ d) → (b ≡ true → d ≤ 53) → cond (a && b) (d - 48) 0 ≡ suc n → (n < 5) × (d ≡ 49 + n)
-  digit_if true true l h e = (omega (arith, l refl, h refl), omega (arith, l refl))
-  digit_if true false l h e = absurd (omega arith)
-  digit_if false b l h e = absurd (omega arith)
+  digit_if : (a b : Bool) → (a ≡ true → 49 ≤ d) → (b ≡ true → d ≤ 53) → cond (a && b) (Some (d - 48)) None ≡ Some n → (1 ≤ n) × (n ≤ 5) × (d ≡ 48 + n)
+  digit_if true true l h e = let m : d - 48 ≡ n = cc in (omega (arith, l refl), omega (arith, h refl), omega (arith, l refl))
+  digit_if true false l h e = cc
+  digit_if false b l h e = cc
 
-  digit_taken : digit_of d ≡ suc n → (n < 5) × (d ≡ 49 + n)
+  digit_taken : digit_of d ≡ Some n → (1 ≤ n) × (n ≤ 5) × (d ≡ 48 + n)
   digit_taken e = digit_if (leb 49 d) (leb d 53) (leb-true 49 d) (leb-true d 53) e
 
-  line_fed : (f : Bool) → cond f (digit_of d) 0 ≡ suc n → (f ≡ true) × ((n < 5) × (d ≡ 49 + n))
+  line_fed : (f : Bool) → cond f (digit_of d) None ≡ Some n → (f ≡ true) × ((1 ≤ n) × (n ≤ 5) × (d ≡ 48 + n))
   line_fed true e = (refl, digit_taken e)
-  line_fed false e = absurd (omega arith)
+  line_fed false e = cc
 
-digit_read : (n : ℕ) → n < 5 → digit_of (49 + n) ≡ suc n
-digit_read n h = rw (le-leb 49 (49 + n) (omega arith), le-leb (49 + n) 53 (omega arith)) (omega arith)
+digit_read : (n : ℕ) → 1 ≤ n → n ≤ 5 → digit_of (48 + n) ≡ Some n
+digit_read n l h = rw (le-leb 49 (48 + n) (omega arith), le-leb (48 + n) 53 (omega arith)) (ap (λ m. Some m) (omega arith))
 
 abbrev Taken : List ℕ → ℕ → Type 0
-Taken input n = (n < 5) × ((input ≡ (49 + n) ∷ []) ⊎ (input ≡ (49 + n) ∷ line_feed ∷ []))
+Taken input n = (1 ≤ n) × (n ≤ 5) × ((input ≡ (48 + n) ∷ []) ⊎ (input ≡ (48 + n) ∷ line_feed ∷ []))
 
-taken : (input : List ℕ) (n : ℕ) → number_in input ≡ suc n → Taken input n
+taken : (input : List ℕ) (n : ℕ) → number_in input ≡ Some n → Taken input n
 unfolding number_in
-taken [] n e = absurd (omega arith)
-taken (d ∷ []) n e = let t = digit_taken d n e in (t.0, inl (ap (λ (x : ℕ). x ∷ []) t.1))
+taken [] n e = cc
+taken (d ∷ []) n e = let t = digit_taken d n e in (t.0, t.1, inl (ap (λ (x : ℕ). x ∷ []) t.2))
 taken (d ∷ f ∷ []) n e =
-    let t = line_fed d n (eqb f line_feed) e in let g = eqb-true f line_feed t.0 in (t.1.0, inr (cc (t.1.1, g)))
-taken (d ∷ f ∷ g ∷ rest) n e = absurd (omega arith)
+    let t = line_fed d n (eqb f line_feed) e in let g = eqb-true f line_feed t.0 in (t.1.0, t.1.1, inr (cc (t.1.2, g)))
+taken (d ∷ f ∷ g ∷ rest) n e = cc
 
-read : (input : List ℕ) (n : ℕ) → Taken input n → number_in input ≡ suc n
+read : (input : List ℕ) (n : ℕ) → Taken input n → number_in input ≡ Some n
 unfolding number_in
-read input n (h, inl e) = ap number_in e ∙ digit_read n h
-read input n (h, inr e) = ap number_in e ∙ digit_read n h
+read input n (l, h, inl e) = ap number_in e ∙ digit_read n l h
+read input n (l, h, inr e) = ap number_in e ∙ digit_read n l h
 
 pub ten_inputs : TenInputs
 ten_inputs input n = (taken input n, read input n)
+
+not_six : (n : ℕ) → Taken (54 ∷ []) n → ⊥
+not_six n (l, h, inl e) = let m : 54 ≡ 48 + n = cc in omega arith
+not_six n (l, h, inr e) = cc
 
 pub three_bytes_decide : ThreeBytesDecide
 unfolding number_in
@@ -184,8 +189,8 @@ pattern_examples =
       of_1 = refl;
       of_1_with_two_feeds = refl;
       of_two_commands = refl;
-      of_5_with_a_feed = (ten_inputs (53 ∷ line_feed ∷ []) 4).1 (omega arith, inr refl);
-      of_6 = λ n e. let t = (ten_inputs (54 ∷ []) n).0 e in omega arith;
+      of_5_with_a_feed = (ten_inputs (53 ∷ line_feed ∷ []) 5).1 (omega arith, omega arith, inr refl);
+      of_6 = λ n e. not_six n ((ten_inputs (54 ∷ []) n).0 e);
       last_of_two = (each_at_its_rank 2 (6 ∷ 6 ∷ []) tt 41).1 refl;
       nowhere_else = λ s. let e = (each_at_its_rank 2 (6 ∷ 6 ∷ []) tt 40).0 s in omega arith;
       shorter_first = (listed_in_order 2 5 6 (6 ∷ []) (1 ∷ 1 ∷ []) sixth seventh).0 (omega arith);

@@ -1,6 +1,6 @@
-pub mod Bytes
 pub mod Filling
 pub mod Held
+pub mod Inputs
 pub mod Laws
 pub mod Lines
 pub mod Numbers

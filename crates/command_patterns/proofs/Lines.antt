@@ -7,10 +7,9 @@ use native.Mathlib.Omega.{arith}
 use native.Mathlib.Numerals.{add-one}
 use mathlib.Core.Path.{◌≡◌, refl, sym, ap, ◌∙◌}
 use mathlib.Core.List.{List, [], ◌∷◌, ◌++◌}
-use Rattle.command_patterns.specs.Patterns.{count, pattern_at, patterns_from, patterns}
+use Rattle.std.specs.Prelude.{Some}
+use Rattle.command_patterns.specs.Patterns.{count, pattern_at, pattern_or_none, patterns_from, patterns}
 use Rattle.command_patterns.specs.Listing.{space, line_feed, code_then, line, lines, listing}
-use Rattle.command_patterns.specs.Held.{held, pattern_or_none}
-use Rattle.command_patterns.proofs.Held.{first_held}
 use Rattle.command_patterns.proofs.Numbers.{of_five, count_less, few_codes}
 
 pub length_code : (c after : ℕ) → length (code_then c after) ≡ 3
@@ -26,13 +25,7 @@ length_line (c ∷ p) =
 pub code_at : (codes : List ℕ) (i : ℕ) → i < length codes → drop i codes ≡ get_or codes i 0 ∷ drop (i + 1) codes
 code_at codes i h = rw (add-one, drop-cons codes i 0)
 
--- the line of a pattern that a record holds
-pub width : (k : ℕ) → k < count 5 → ((held (pattern_at k)).first ≤ 5) × (length (line (pattern_at k)) ≡ 3 * (6 - (held (pattern_at k)).first))
-width k h =
-    let p = pattern_at k in
-    (omega (arith, first_held p), omega (arith, first_held p, few_codes 5 k h, length_line p))
-
-pub of_rank : (k : ℕ) → k < count 5 → pattern_or_none k ≡ pattern_at k
+pub of_rank : (k : ℕ) → k < count 5 → pattern_or_none k ≡ Some (pattern_at k)
 unfolding pattern_or_none
 of_rank k h = rw (lt-ltb k (count 5) h) refl
 
@@ -62,6 +55,3 @@ next_line k all h =
 pub all_lines : (n : ℕ) → listing n ≡ lines (patterns_from 0 (count n - 0))
 unfolding listing patterns
 all_lines n = let e : count n ≡ count n - 0 = omega arith in ap (λ (m : ℕ). lines (patterns_from 0 m)) e
-
-pub no_line : (k all : ℕ) → all ≤ k → lines (patterns_from k (all - k)) ≡ []
-no_line k all h = let e : all - k ≡ 0 = omega arith in ap (λ (m : ℕ). lines (patterns_from k m)) e

@@ -1,33 +1,26 @@
 -- What is answered of the rank of a list of codes.
-use lib.Dec.{T, leb}
-use lib.ListN.{length}
-use borrow.Author.Tests.{le-leb}
-use Prim.Native.Nat.{ℕ, ◌-◌, ◌≤◌}
-use native.Mathlib.Omega.{arith}
-use mathlib.Core.Path.{◌≡◌, refl, sym, subst, ◌∙◌}
-use mathlib.Core.Bool.{Bool, true, false, cond, ◌&&◌}
-use mathlib.Core.List.{List, [], ◌∷◌}
-use Rattle.command_patterns.specs.Patterns.{all_codes, is_pattern, count, number_from, rank}
-use Rattle.command_patterns.specs.Held.{rank_or_count}
-use Rattle.command_patterns.proofs.Numbers.{positive, of_five}
+use Rattle.std.proofs.Common.{T, length, ℕ, ◌-◌, ◌≤◌, ◌<◌, ◌≡◌, refl, sym, subst, arith, true, false, List, [], ◌∷◌}
+use Rattle.std.proofs.Math.Bool.{and-false}
+use Rattle.std.specs.Prelude.{Option, None, Some, SomeIff}
+use borrow.Author.Tests.{le-leb, lt-leb}
+use Rattle.command_patterns.specs.Patterns.{all_codes, is_pattern, number_from, rank, rank_or_none}
+use Rattle.command_patterns.proofs.Numbers.{positive}
 
-never : (a : Bool) (x y : ℕ) → cond (a && false) x y ≡ y
-never true x y = refl
-never false x y = refl
+pub of_too_many : (p : List ℕ) → 5 < length p → rank_or_none p ≡ None
+unfolding rank_or_none is_pattern
+of_too_many p h = simp (lt-leb (length p) 5 h, and-false)
 
-pub of_wrong_code : (p : List ℕ) → all_codes p ≡ false → 9330 ≡ rank_or_count p
-unfolding rank_or_count is_pattern
-of_wrong_code p e = sym (rw e (never (leb 1 (length p) && leb (length p) 5) (rank p) (count 5)) ∙ of_five)
+pub of_wrong_code : (p : List ℕ) → all_codes p ≡ false → rank_or_none p ≡ None
+unfolding rank_or_none is_pattern
+of_wrong_code p e = simp (e, and-false)
 
-pub of_no_code : (p : List ℕ) → all_codes p ≡ true → number_from 0 p ≡ 0 → 9330 ≡ rank_or_count p
-unfolding rank_or_count is_pattern
-of_no_code [] s e = sym of_five
-of_no_code (c ∷ p) s e = absurd (omega (arith, positive (c ∷ p) (omega arith) (subst T (sym s) tt)))
-
-pub of_pattern : (p : List ℕ) → all_codes p ≡ true → length p ≤ 5 → 1 ≤ number_from 0 p → number_from 0 p - 1 ≡ rank_or_count p
-unfolding rank_or_count is_pattern rank
-of_pattern [] s l h = absurd (omega arith)
-of_pattern (c ∷ p) s l h = simp (s, le-leb 1 (length (c ∷ p)) (omega arith), le-leb (length (c ∷ p)) 5 l)
+-- the number of right codes, of which none at all come to 0
+pub of_number : (p : List ℕ) (r : Option ℕ) → all_codes p ≡ true → length p ≤ 5 → SomeIff r (1 ≤ number_from 0 p) (number_from 0 p - 1) → r ≡ rank_or_none p
+unfolding rank_or_none is_pattern rank
+of_number [] None s l h = refl
+of_number [] (Some x) s l h = absurd (omega (arith, h.0))
+of_number (c ∷ p) None s l h = absurd (h (positive (c ∷ p) (omega arith) (subst T (sym s) tt)))
+of_number (c ∷ p) (Some x) s l h = simp (s, h.1, le-leb 1 (length (c ∷ p)) (omega arith), le-leb (length (c ∷ p)) 5 l)
 
 -- the codes that are left decide, after those that came to a number
 pub record Left (p rest : List ℕ) (number : ℕ) : Type 0 where

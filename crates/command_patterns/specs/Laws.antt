@@ -1,6 +1,6 @@
 -- Document 02, ask 1: "Every pattern shows up in it, none a second time, and the rank of a pattern .. gives back that pattern." The claims;
 -- `proofs/Laws.antt` proves them.
-use Rattle.std.specs.Prelude.{T, length, get_or, take, ℕ, suc, ◌+◌, ◌<◌, ◌≡◌, ◌↔◌, ◌⊎◌, List, [], ◌∷◌}
+use Rattle.std.specs.Prelude.{T, length, get_or, take, ℕ, ◌+◌, ◌<◌, ◌≤◌, ◌≡◌, ◌↔◌, ◌⊎◌, Some, List, [], ◌∷◌}
 use Rattle.command_patterns.specs.Patterns.{is_pattern, ComesBefore, count, rank, pattern_at, patterns}
 use Rattle.command_patterns.specs.Listing.{line_feed, line, number_in, eleven, printed}
 
@@ -44,7 +44,7 @@ LowerComesFirst = (n : ℕ) (p q : List ℕ) → T (is_pattern n p) → T (is_pa
 abbrev pub TenInputs : Type 0
 TenInputs =
     (input : List ℕ) (n : ℕ)
-    → (number_in input ≡ suc n) ↔ ((n < 5) × ((input ≡ (49 + n) ∷ []) ⊎ (input ≡ (49 + n) ∷ line_feed ∷ [])))
+    → (number_in input ≡ Some n) ↔ ((1 ≤ n) × (n ≤ 5) × ((input ≡ (48 + n) ∷ []) ⊎ (input ≡ (48 + n) ∷ line_feed ∷ [])))
 
 abbrev pub ThreeBytesDecide : Type 0
 ThreeBytesDecide = (input : List ℕ) → number_in (take 3 input) ≡ number_in input
@@ -65,8 +65,8 @@ pub record PatternExamples : Type 0 where
   pub of_1 : printed (49 ∷ []) ≡ one_command
   pub of_1_with_two_feeds : printed (49 ∷ line_feed ∷ line_feed ∷ []) ≡ eleven
   pub of_two_commands : line (1 ∷ 6 ∷ []) ≡ 48 ∷ 49 ∷ 32 ∷ 48 ∷ 54 ∷ 32 ∷ 48 ∷ 48 ∷ 10 ∷ []
-  pub of_5_with_a_feed : number_in (53 ∷ line_feed ∷ []) ≡ 5
-  pub of_6 : (n : ℕ) → number_in (54 ∷ []) ≡ suc n → ⊥
+  pub of_5_with_a_feed : number_in (53 ∷ line_feed ∷ []) ≡ Some 5
+  pub of_6 : (n : ℕ) → number_in (54 ∷ []) ≡ Some n → ⊥
   pub last_of_two : Stands 2 41 (6 ∷ 6 ∷ [])
   pub nowhere_else : Stands 2 40 (6 ∷ 6 ∷ []) → ⊥
   pub shorter_first : ComesBefore (6 ∷ []) (1 ∷ 1 ∷ [])

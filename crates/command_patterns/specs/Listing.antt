@@ -1,5 +1,5 @@
 -- Document 02, ask 1: what the program reads and prints, byte by byte. Definitions only.
-use Rattle.std.specs.Prelude.{eqb, leb, ℕ, zero, suc, ◌+◌, ◌-◌, cond, ◌&&◌, List, [], ◌∷◌, ◌++◌}
+use Rattle.std.specs.Prelude.{eqb, leb, ℕ, ◌+◌, ◌-◌, cond, ◌&&◌, Option, None, Some, List, [], ◌∷◌, ◌++◌}
 use Rattle.command_patterns.specs.Patterns.{patterns}
 
 abbrev pub line_feed : ℕ
@@ -25,24 +25,24 @@ lines (p ∷ ps) = line p ++ lines ps
 unfoldable pub listing : ℕ → List ℕ
 listing n = lines (patterns n)
 
--- "one digit from 1 to 5", as a number; else 0
-abbrev pub digit_of : ℕ → ℕ
-digit_of d = cond (leb 49 d && leb d 53) (d - 48) 0
+-- "one digit from 1 to 5", as a number
+abbrev pub digit_of : ℕ → Option ℕ
+digit_of d = cond (leb 49 d && leb d 53) (Some (d - 48)) None
 
--- the n of an input, "with or without one line feed after it"; 0 for any other input
-unfoldable pub number_in : List ℕ → ℕ
-number_in [] = 0
+-- the n of an input, "with or without one line feed after it"
+unfoldable pub number_in : List ℕ → Option ℕ
+number_in [] = None
 number_in (d ∷ []) = digit_of d
-number_in (d ∷ e ∷ []) = cond (eqb e line_feed) (digit_of d) 0
-number_in (d ∷ e ∷ f ∷ rest) = 0
+number_in (d ∷ e ∷ []) = cond (eqb e line_feed) (digit_of d) None
+number_in (d ∷ e ∷ f ∷ rest) = None
 
 -- "11, printed alone on a line"
 abbrev pub eleven : List ℕ
 eleven = 49 ∷ 49 ∷ line_feed ∷ []
 
-abbrev pub printed_for : ℕ → List ℕ
-printed_for zero = eleven
-printed_for (suc n) = listing (suc n)
+abbrev pub printed_for : Option ℕ → List ℕ
+printed_for None = eleven
+printed_for (Some n) = listing n
 
 -- what the program prints, of all of its standard input
 unfoldable pub printed : List ℕ → List ℕ

@@ -1,6 +1,6 @@
 -- Document 02, ask 1: every command pattern for the rig. A pattern is the list of its codes, without the 00 that follows them; the codes are the
 -- ask's, whatever codes job files have. Definitions only.
-use Rattle.std.specs.Prelude.{leb, length, ℕ, zero, suc, ◌+◌, ◌-◌, ◌*◌, ◌/◌, ◌%◌, ◌^◌, ◌<◌, ◌≡◌, ◌⊎◌, Bool, true, ◌&&◌, List, [], ◌∷◌, ◌++◌}
+use Rattle.std.specs.Prelude.{leb, ltb, length, ℕ, zero, suc, ◌+◌, ◌-◌, ◌*◌, ◌/◌, ◌%◌, ◌^◌, ◌<◌, ◌≡◌, ◌⊎◌, Bool, true, ◌&&◌, cond, Option, None, Some, List, [], ◌∷◌, ◌++◌}
 
 -- "codes 01 to 06"
 abbrev pub is_code : ℕ → Bool
@@ -56,3 +56,11 @@ patterns_from k (suc m) = pattern_at k ∷ patterns_from (suc k) m
 -- those of one up to n commands, in their order
 unfoldable pub patterns : ℕ → List (List ℕ)
 patterns n = patterns_from 0 (count n)
+
+-- the pattern of a rank; there is none past the last rank of one up to five commands
+unfoldable pub pattern_or_none : ℕ → Option (List ℕ)
+pattern_or_none k = cond (ltb k (count 5)) (Some (pattern_at k)) None
+
+-- the rank of a pattern of one up to five commands; nothing else has one
+unfoldable pub rank_or_none : List ℕ → Option ℕ
+rank_or_none p = cond (is_pattern 5 p) (Some (rank p)) None

@@ -3,30 +3,25 @@
 ghost use Rattle.std.specs.Prelude.{◌≡◌, ◌≤◌, T, length};
 ghost use Rattle.command_patterns.specs.Patterns.{all_codes};
 ghost use Rattle.command_patterns.specs.Listing.{code_then, line};
-ghost use Rattle.command_patterns.specs.Held.{codes_of};
 
-use super::pattern::Pattern;
-
+#[tactic(auto, unfolding(crate::specs::Listing::code_then))]
 fn put_code(code: u8, after: u8, out: &mut [u8])
     requires { (code ≤ 6) × (length out.old ≡ 3) }
     ensures { out.new ≡ code_then code after }
 {
-    out[0] = b'0';
-    out[1] = b'0' + code;
-    out[2] = after;
+    out.copy_from_slice(&[b'0', b'0' + code, after]);
 }
 
-pub fn put_line(p: Pattern, out: &mut [u8])
-    requires { T (all_codes (codes_of p)) × (length out.old ≡ length (line (codes_of p))) }
-    ensures { out.new ≡ line (codes_of p) }
+// The line of a pattern, by its codes.
+pub fn put_line(codes: &[u8], out: &mut [u8])
+    requires { T (all_codes codes.now) × (length out.old ≡ length (line codes.now)) }
+    ensures { out.new ≡ line codes.now }
 {
     let mut at = 0;
-    let mut i = p.first;
-    while i < 5 {
+    for &code in codes {
         let to = at + 3;
-        put_code(p.codes[i], b' ', &mut out[at..to]);
+        put_code(code, b' ', &mut out[at..to]);
         at = to;
-        i += 1;
     }
     let to = at + 3;
     put_code(0, b'\n', &mut out[at..to]);

@@ -6,32 +6,27 @@ ghost use Rattle.command_patterns.specs.Listing.{listing, eleven, printed};
 
 use super::{input, line, pattern};
 
+// How many patterns there are of one up to n commands, for each n.
+const COUNTS: [u64; 6] = [0, 6, 42, 258, 1554, pattern::COUNT];
+
 fn count(n: u8) -> u64
-    requires { (1 ≤ n) × (n ≤ 5) }
+    requires { n ≤ 5 }
     ensures { result ≡ count n }
 {
-    match n {
-        1 => 6,
-        2 => 42,
-        3 => 258,
-        4 => 1554,
-        _ => pattern::COUNT,
-    }
+    COUNTS[usize::from(n)]
 }
 
 fn list(n: u8, out: &mut [u8]) -> usize
-    requires { (1 ≤ n) × (n ≤ 5) × (length (listing n) ≤ length out.old) }
+    requires { (n ≤ 5) × (length (listing n) ≤ length out.old) }
     ensures { (result ≡ length (listing n)) × (out.new ≡ listing n ++ drop result out.old) }
 {
-    let all = count(n);
     let mut at = 0;
-    let mut rank = 0;
-    while rank < all {
-        let p = pattern::pattern_at(rank);
-        let to = at + 3 * (6 - p.first);
-        line::put_line(p, &mut out[at..to]);
+    for rank in 0..count(n) {
+        let p = pattern::pattern_at(rank).unwrap();
+        let codes = p.codes();
+        let to = at + 3 * (codes.len() + 1);
+        line::put_line(codes, &mut out[at..to]);
         at = to;
-        rank += 1;
     }
     at
 }
@@ -40,22 +35,21 @@ fn refuse(out: &mut [u8]) -> usize
     requires { 3 ≤ length out.old }
     ensures { (result ≡ length eleven) × (out.new ≡ eleven ++ drop result out.old) }
 {
-    out[0] = b'1';
-    out[1] = b'1';
-    out[2] = b'\n';
+    out[..3].copy_from_slice(b"11\n");
     3
 }
 
 // Room for every line at the width of the longest: 9,330 of 18 bytes.
 pub const ROOM: usize = 167940;
 
-// Puts what the program prints at the start of the buffer, and answers how many bytes that is. The front has the first three bytes of its input, or all
+// Puts what the program prints at the start of the buffer, and answers how many bytes that is. The front is the first three bytes of its input, or all
 // that there are.
-pub fn answer(front: [u8; 3], read: usize, out: &mut [u8; ROOM]) -> usize
-    requires { read ≤ 3 }
-    ensures length_printed { (input : List ℕ) → take 3 input ≡ take read front → result ≡ length (printed input) }
-    ensures bytes_printed { (input : List ℕ) → take 3 input ≡ take read front → out.new ≡ printed input ++ drop result out.old }
+pub fn answer(front: &[u8], out: &mut [u8; ROOM]) -> usize
+    ensures length_printed { (input : List ℕ) → take 3 input ≡ front.now → result ≡ length (printed input) }
+    ensures bytes_printed { (input : List ℕ) → take 3 input ≡ front.now → out.new ≡ printed input ++ drop result out.old }
 {
-    let n = input::number_in(&front[..read]);
-    if n == 0 { refuse(out) } else { list(n, out) }
+    match input::number_in(front) {
+        Some(n) => list(n, out),
+        None => refuse(out),
+    }
 }

@@ -1,8 +1,9 @@
 // A pattern, and its rank: its codes are the digits, 1 to 6, of a number to base six, which is one more than the rank.
 
 ghost use Rattle.std.specs.Prelude.{◌≡◌};
-ghost use Rattle.command_patterns.specs.Patterns.{is_code};
-ghost use Rattle.command_patterns.specs.Held.{codes_of, held, pattern_or_none, rank_or_count};
+ghost use Rattle.command_patterns.specs.Patterns.{is_code, pattern_or_none, rank_or_none};
+
+use std::marker::Model;
 
 // As many as there are of one up to five commands.
 pub const COUNT: u64 = 9330;
@@ -10,19 +11,43 @@ pub const COUNT: u64 = 9330;
 // Its codes are those from `first` on.
 #[derive(Clone, Copy)]
 pub struct Pattern {
-    pub codes: [u8; 5],
-    pub first: usize,
+    codes: [u8; 5],
+    first: usize,
 }
 
-// The pattern of a rank; of one past the last, no code.
-pub fn pattern_at(rank: u64) -> Pattern
-    ensures { result ≡ held (pattern_or_none rank) }
+impl Model for Pattern {
+    ghost use Rattle.std.specs.Prelude.{◌≡◌, List, ℕ};
+
+    ghost Value = { List ℕ };
+
+    ghost use Rattle.command_patterns.specs.Held.{codes_of, held};
+
+    ghost view = { codes_of };
+
+    ghost invariant = { λ p. held (codes_of p) ≡ p };
+
+    ghost inverse = { held };
+
+    ghost inverse_ok = { λ p h. h };
+}
+
+impl Pattern {
+    pub fn codes(&self) -> &[u8]
+        ensures { result.now ≡ self.now }
+    {
+        &self.codes[self.first..]
+    }
+}
+
+// The pattern of a rank; there is none past the last.
+pub fn pattern_at(rank: u64) -> Option<Pattern>
+    ensures { result ≡ pattern_or_none rank }
 {
+    if COUNT <= rank {
+        return None;
+    }
     let mut codes = [0; 5];
     let mut first = 5;
-    if COUNT <= rank {
-        return Pattern { codes, first };
-    }
     let mut left = rank + 1;
     while 0 < left {
         let k = left - 1;
@@ -30,31 +55,29 @@ pub fn pattern_at(rank: u64) -> Pattern
         codes[first] = (k % 6 + 1) as u8;
         left = k / 6;
     }
-    Pattern { codes, first }
+    Some(Pattern { codes, first })
 }
 
 fn is_code(code: u8) -> bool
     ensures { result ≡ is_code code }
 {
-    (1 <= code) & (code <= 6)
+    matches!(code, 1..=6)
 }
 
-// The rank of a pattern; of what is none of one up to five commands, their count, which is no pattern's.
-pub fn rank(p: Pattern) -> u64
-    ensures { result ≡ rank_or_count (codes_of p) }
+// The rank of a pattern, by its codes; what is none of one up to five commands has none.
+pub fn rank(codes: &[u8]) -> Option<u64>
+    ensures { result ≡ rank_or_none codes.now }
 {
+    if 5 < codes.len() {
+        return None;
+    }
     let mut number = 0;
-    let mut i = p.first;
-    while i < 5 {
-        let code = p.codes[i];
+    for &code in codes {
         if !is_code(code) {
-            return COUNT;
+            return None;
         }
-        number = 6 * number + code as u64;
-        i += 1;
+        number = 6 * number + u64::from(code);
     }
-    if number == 0 {
-        return COUNT;
-    }
-    number - 1
+    // No code at all comes to 0.
+    number.checked_sub(1)
 }

@@ -1,10 +1,5 @@
 -- The next code and a space are written where the line goes on; after the last code 00 and the line feed.
-use lib.Dec.{T}
-use lib.ListN.{length, get_or, drop, drop_of_length-le}
-use Prim.Native.Nat.{ℕ, ◌+◌, ◌-◌, ◌≤◌, ◌<◌}
-use native.Mathlib.Omega.{arith}
-use mathlib.Core.Path.{subst}
-use mathlib.Core.List.{List, [], ◌++◌, append-nil}
+use Rattle.std.proofs.Common.{T, length, get_or, drop, drop_of_length-le, ℕ, ◌+◌, ◌-◌, ◌≤◌, ◌<◌, subst, arith, List, [], ◌++◌, append-nil}
 use Rattle.command_patterns.specs.Patterns.{all_codes}
 use Rattle.command_patterns.specs.Listing.{space, line_feed, code_then, line}
 use Rattle.command_patterns.proofs.Filling.{Filling, part_written, part_fits, whole_written}
@@ -29,22 +24,23 @@ codes_after codes i h t =
     (first_code (get_or codes i 0) (drop (i + 1) codes) (subst (λ (cs : List ℕ). T (all_codes cs)) (code_at codes i h) t)).2
 
 pub slice_bounds-put_code-end : goal.slice_bounds-put_code-end
-slice_bounds-put_code-end c = room _ _ _ (next c.args.p.codes c.loop-i.i c.loop-i.invariant.2 (omega arith))
+slice_bounds-put_code-end c = room _ _ _ (next c.args.codes.now c.loop-code.code-index c.loop-code.invariant.filling c.loop-code-test.true)
 
-pub loop-i-preserved : goal.loop-i-preserved
-loop-i-preserved c =
-    let l = c.loop-i in (
-      l.invariant.0,
-      codes_after c.args.p.codes l.i (omega arith) l.invariant.1,
-      part_written _ (l.at + 3 - l.at) 3 (next c.args.p.codes l.i l.invariant.2 (omega arith)) c.put_code.ensures (length_code _ space) (omega arith),
-    )
+pub loop-code-preserved : goal.loop-code-preserved
+loop-code-preserved c =
+    let l = c.loop-code in
+    let codes = c.args.codes.now in
+    record {
+      right = codes_after codes l.code-index c.loop-code-test.true l.invariant.right;
+      filling = part_written _ (l.at + 3 - l.at) 3 (next codes l.code-index l.invariant.filling c.loop-code-test.true) c.put_code.ensures (length_code _ space) (omega arith);
+    }
 
 pub slice_bounds-put_code-end-2 : goal.slice_bounds-put_code-end-2
-slice_bounds-put_code-end-2 c = room _ _ _ (last c.args.p.codes c.loop-i.i c.loop-i.invariant.2 (omega arith))
+slice_bounds-put_code-end-2 c = room _ _ _ (last c.args.codes.now c.loop-code.code-index c.loop-code.invariant.filling c.loop-code-test.false)
 
 pub returns : goal.returns
 returns c =
-    let l = c.loop-i in
+    let l = c.loop-code in
     whole_written
-    (part_written _ (l.at + 3 - l.at) 3 (last c.args.p.codes l.i l.invariant.2 (omega arith)) c.put_code-2.ensures (length_code 0 line_feed) (omega arith))
+    (part_written _ (l.at + 3 - l.at) 3 (last c.args.codes.now l.code-index l.invariant.filling c.loop-code-test.false) c.put_code-2.ensures (length_code 0 line_feed) (omega arith))
     (omega arith)

@@ -1,17 +1,13 @@
--- The invariant: the line is what is written so far, then the line of the codes from i on.
-use lib.Dec.{T}
-use lib.ListN.{length, drop}
-use Prim.Native.Nat.{◌-◌}
-use mathlib.Core.Path.{◌≡◌}
+-- The invariant: the line is what is written so far, then the line of the codes that are left.
+use Rattle.std.proofs.Common.{T, drop}
 use Rattle.command_patterns.specs.Patterns.{all_codes}
 use Rattle.command_patterns.specs.Listing.{line}
-use Rattle.command_patterns.specs.Held.{codes_of}
 use Rattle.command_patterns.proofs.Filling.{Filling}
 use Rattle.command_patterns.proofs.line.put_line.Given as goal
 
-abbrev pub invariant-loop-i : goal.invariant-loop-i
-invariant-loop-i l =
-    (length l.p.codes ≡ 5) × T (all_codes (drop l.i l.p.codes)) × Filling (line (codes_of l.p)) l.out l.initial.out (line (drop l.i l.p.codes)) l.at
-
-abbrev pub decreases-loop-i : goal.decreases-loop-i
-decreases-loop-i l = 5 - l.i
+abbrev pub invariant-loop-code : goal.invariant-loop-code
+invariant-loop-code l =
+    record {
+      right : T (all_codes (drop l.code-index l.codes));
+      filling : Filling (line l.codes) l.out l.initial.out (line (drop l.code-index l.codes)) l.at;
+    }

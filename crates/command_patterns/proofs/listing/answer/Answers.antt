@@ -1,49 +1,27 @@
 -- By the number that the input asks for, which its first three bytes decide.
-use lib.ListN.{length, take}
-use borrow.Author.Rules.{rules}
-use Prim.Native.Nat.{ℕ, zero, suc, ◌≤◌}
-use native.Mathlib.Omega.{arith}
-use mathlib.Core.Path.{◌≡◌, refl, sym, ap, ◌∙◌}
-use mathlib.Core.List.{List}
-use Rattle.command_patterns.specs.Listing.{listing, number_in, printed_for, printed}
+use Rattle.std.proofs.Common.{length, take, ℕ, ◌≡◌, sym, ap, ◌∙◌, refl, arith, List}
+use Rattle.std.specs.Prelude.{Option}
+use Rattle.command_patterns.specs.Listing.{number_in, printed_for, printed}
 use Rattle.command_patterns.proofs.Laws.{ten_inputs, three_bytes_decide}
 use Rattle.command_patterns.proofs.Lines.{listing_fits}
 use Rattle.command_patterns.proofs.listing.answer.Goals as goal
 
-at_most_five : (front : List ℕ) (n : ℕ) → number_in front ≡ n → n ≤ 5
-at_most_five front zero e = omega arith
-at_most_five front (suc n) e = ((ten_inputs front n).0 e).0
-
-module _ (input front : List ℕ) (n : ℕ) (r : take 3 input ≡ front) (e : n ≡ number_in front) where
-  asked : n ≡ number_in input
-  asked = e ∙ ap number_in (sym r) ∙ three_bytes_decide input
-
-  refused : n ≡ 0 → printed_for 0 ≡ printed input
-  unfolding printed
-  refused z = ap printed_for (sym z ∙ asked)
-
-  listed : printed_for n ≡ printed input
-  unfolding printed
-  listed = ap printed_for asked
-
-for_some : (n : ℕ) → (n ≡ 0 → ⊥) → listing n ≡ printed_for n
-for_some zero z = absurd (z refl)
-for_some (suc n) z = refl
+asked : (input front : List ℕ) (n : Option ℕ) → take 3 input ≡ front → n ≡ number_in front → printed_for n ≡ printed input
+unfolding printed
+asked input front n r e = ap printed_for (e ∙ ap number_in (sym r) ∙ three_bytes_decide input)
 
 pub list-requires : goal.list-requires
 list-requires c =
-    let n = c.number_in-n in
-    let h = at_most_five _ n.result (sym n.ensures) in
-    let l : length c.args.out.now ≡ 167940 = search rules in
-    let z = c.if-n-eq0.false in
-    (omega (arith, z), h, omega (arith, listing_fits n.result h))
+    let n = c.in-Some.n in
+    let h = (ten_inputs c.args.front.now n).0 (sym c.number_in.ensures ∙ c.in-Some.is) in
+    (h.1, omega (arith, listing_fits n h.1, c.told-out))
 
-pub returns-then-n-eq0 : goal.returns-then-n-eq0
-returns-then-n-eq0 c =
-    let n = c.number_in-n in
-    let z = c.if-n-eq0.true in record { length_printed = λ input r. c.refuse.ensures.0 ∙ ap length (refused input _ n.result r n.ensures z); bytes_printed = λ input r. c.refuse.ensures.1 ∙ rw (← refused input _ n.result r n.ensures z) refl }
+pub returns-in-Some : goal.returns-in-Some
+returns-in-Some c =
+    let e = λ (input : List ℕ) (r : take 3 input ≡ c.args.front.now). asked input _ _ r (sym c.in-Some.is ∙ c.number_in.ensures) in
+    record { length_printed = λ input r. c.list.ensures.0 ∙ ap length (e input r); bytes_printed = λ input r. c.list.ensures.1 ∙ rw (← e input r) refl }
 
-pub returns-else-n-eq0 : goal.returns-else-n-eq0
-returns-else-n-eq0 c =
-    let n = c.number_in-n in
-    let z = c.if-n-eq0.false in record { length_printed = λ input r. c.list.ensures.0 ∙ ap length (for_some n.result z ∙ listed input _ n.result r n.ensures); bytes_printed = λ input r. c.list.ensures.1 ∙ rw (← listed input _ n.result r n.ensures, ← for_some n.result z) refl }
+pub returns-in-None : goal.returns-in-None
+returns-in-None c =
+    let e = λ (input : List ℕ) (r : take 3 input ≡ c.args.front.now). asked input _ _ r (sym c.in-None.is ∙ c.number_in.ensures) in
+    record { length_printed = λ input r. c.refuse.ensures.0 ∙ ap length (e input r); bytes_printed = λ input r. c.refuse.ensures.1 ∙ rw (← e input r) refl }

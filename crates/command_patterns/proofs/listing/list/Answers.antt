@@ -1,78 +1,66 @@
 -- The invariant: the listing is what is written so far, then the lines of the ranks from this one on.
-use lib.Dec.{T}
-use lib.ListN.{length, length-take, length-drop}
-use Prim.Native.Nat.{ℕ, ◌+◌, ◌-◌, ◌*◌, ◌≤◌, ◌<◌}
-use native.Mathlib.Omega.{arith}
-use mathlib.Core.Path.{◌≡◌, sym, ap, subst, ◌∙◌}
-use mathlib.Core.List.{List, ◌++◌}
-use Rattle.command_patterns.specs.Patterns.{all_codes, count, pattern_at, patterns_from}
-use Rattle.command_patterns.specs.declared.pattern.Pattern.{Pattern}
+use Rattle.std.proofs.Common.{T, length, length-take, length-drop, ℕ, ◌+◌, ◌-◌, ◌*◌, ◌≤◌, ◌<◌, ◌≡◌, refl, subst, arith, List, ◌++◌}
+use Rattle.std.specs.Prelude.{Option, Some}
+use Rattle.command_patterns.specs.Patterns.{all_codes, count, pattern_at, pattern_or_none, patterns_from}
 use Rattle.command_patterns.specs.Listing.{line, lines, listing}
-use Rattle.command_patterns.specs.Held.{codes_of, held, pattern_or_none}
 use Rattle.command_patterns.proofs.Filling.{Filling, none_written, part_written, part_fits}
-use Rattle.command_patterns.proofs.Held.{codes_held}
-use Rattle.command_patterns.proofs.Lines.{width, of_rank, all_lines, next_line}
+use Rattle.command_patterns.proofs.Lines.{length_line, of_rank, all_lines, next_line}
 use Rattle.command_patterns.proofs.Numbers.{count_less, right_codes}
 use Rattle.command_patterns.proofs.listing.list.Goals as goal
 
--- the next line: its codes, its width, and its place
-record Next (n all : ℕ) (p : Pattern) (out out₀ : List ℕ) (at rank : ℕ) : Type 0 where
-  is : codes_of p ≡ pattern_at rank
-  early : p.first ≤ 5
-  wide : length (line (pattern_at rank)) ≡ 3 * (6 - p.first)
-  filling : Filling (listing n) out out₀ (line (pattern_at rank) ++ lines (patterns_from (rank + 1) (all - (rank + 1)))) at
-  room : at + 3 * (6 - p.first) ≤ length out
+-- the next line: its codes, and its place
+record Next (n all : ℕ) (codes out old : List ℕ) (at rank : ℕ) : Type 0 where
+  right : T (all_codes codes)
+  filling : Filling (listing n) out old (line codes ++ lines (patterns_from (rank + 1) (all - (rank + 1)))) at
+  room : at + 3 * (length codes + 1) ≤ length out
 
-next : {n all : ℕ} {p : Pattern} {out old : List ℕ} {at rank : ℕ}
+rank_below : {n all rank : ℕ} → n ≤ 5 → all ≡ count n → rank < all → rank < count 5
+rank_below {n} h c l = omega (arith, count_less n 5 h)
+
+next : {n all : ℕ} {codes p out old : List ℕ} {r : Option (List ℕ)} {at rank : ℕ}
     → n ≤ 5
     → all ≡ count n
     → rank < all
-    → p ≡ held (pattern_or_none rank)
+    → codes ≡ p
+    → r ≡ Some p
+    → r ≡ pattern_or_none rank
     → Filling (listing n) out old (lines (patterns_from rank (all - rank))) at
-    → Next n all p out old at rank
-next {n} {all} {p} {out} {old} {at} {rank} n-le c l e f =
-    let h : rank < count 5 = omega (arith, count_less n 5 n-le) in
-    let e : p ≡ held (pattern_at rank) = e ∙ ap held (of_rank rank h) in
-    let first = ap (λ (q : Pattern). q.first) e in
-    let w = width rank h in
-    let wide : length (line (pattern_at rank)) ≡ 3 * (6 - p.first) = omega (arith, first, w.1) in
-    let f = subst (λ (left : List ℕ). Filling (listing n) out old left at) (next_line rank all l) f in
+    → Next n all codes out old at rank
+next {n} {all} {codes} {p} {out} {old} {r} {at} {rank} h c l d u e f =
+    let is : pattern_at rank ≡ codes = cc (of_rank rank (rank_below h c l)) in
+    let f = rw is at (subst (λ (left : List ℕ). Filling (listing n) out old left at) (next_line rank all l) f) in
     record {
-      is = ap codes_of e ∙ codes_held (pattern_at rank);
-      early = omega (arith, first, w.0);
-      wide = wide;
+      right = rw is at (right_codes rank);
       filling = f;
-      room = omega (arith, wide, part_fits (line (pattern_at rank)) _ f);
+      room = omega (arith, length_line codes, part_fits (line codes) _ f);
     }
 
 pub loop-rank-init : goal.loop-rank-init
 loop-rank-init c =
     let n = c.args.n in
-    let out = c.args.out.now in (
-      c.count-all.ensures,
-      omega arith,
-      rw c.count-all.ensures (subst (λ (left : List ℕ). Filling (listing n) out out left 0) (all_lines n) (none_written (listing n) out c.requires.2)),
-    )
+    let out = c.args.out.now in
+    record {
+      all = c.count-rank-end.ensures;
+      filling = rw c.count-rank-end.ensures (subst (λ (left : List ℕ). Filling (listing n) out out left 0) (all_lines n) (none_written (listing n) out c.requires.1));
+    }
 
-pub overflow_sub-to : goal.overflow_sub-to
-overflow_sub-to c = omega (arith, (next c.requires.1 c.loop-rank.invariant.0 (omega arith) c.pattern_at-p.ensures c.loop-rank.invariant.2).early)
+pub unwrap-p-requires : goal.unwrap-p-requires
+unwrap-p-requires c = rw (c.pattern_at.ensures, of_rank c.loop-rank.rank (rank_below c.requires.0 c.loop-rank.invariant.all c.loop-rank-test.true)) refl
 
 pub slice_bounds-put_line-end : goal.slice_bounds-put_line-end
-slice_bounds-put_line-end c = (next c.requires.1 c.loop-rank.invariant.0 (omega arith) c.pattern_at-p.ensures c.loop-rank.invariant.2).room
+slice_bounds-put_line-end c =
+    let x = next c.requires.0 c.loop-rank.invariant.all c.loop-rank-test.true c.codes-codes.ensures c.unwrap-p.ensures c.pattern_at.ensures c.loop-rank.invariant.filling in
+    x.room
 
 pub put_line-requires : goal.put_line-requires
 put_line-requires c =
-    let x = next c.requires.1 c.loop-rank.invariant.0 (omega arith) c.pattern_at-p.ensures c.loop-rank.invariant.2 in (
-      subst (λ (p : List ℕ). T (all_codes p)) (sym x.is) (right_codes _),
-      simp (length-take, length-drop) (omega (arith, x.room, x.wide, ap (λ (p : List ℕ). length (line p)) x.is)),
-    )
+    let x = next c.requires.0 c.loop-rank.invariant.all c.loop-rank-test.true c.codes-codes.ensures c.unwrap-p.ensures c.pattern_at.ensures c.loop-rank.invariant.filling in
+    (x.right, simp (length-take, length-drop) (omega (arith, x.room, length_line c.codes-codes.result.now)))
 
 pub loop-rank-preserved : goal.loop-rank-preserved
 loop-rank-preserved c =
+    let x = next c.requires.0 c.loop-rank.invariant.all c.loop-rank-test.true c.codes-codes.ensures c.unwrap-p.ensures c.pattern_at.ensures c.loop-rank.invariant.filling in
     let l = c.loop-rank in
-    let x = next c.requires.1 c.loop-rank.invariant.0 (omega arith) c.pattern_at-p.ensures c.loop-rank.invariant.2 in
-    let w = 3 * (6 - c.pattern_at-p.result.first) in (
-      l.invariant.0,
-      omega arith,
-      part_written _ (l.at + w - l.at) w x.filling (c.put_line.ensures ∙ ap line x.is) x.wide (omega arith),
-    )
+    let codes = c.codes-codes.result.now in
+    let w = 3 * (length codes + 1) in
+    record { all = l.invariant.all; filling = part_written _ (l.at + w - l.at) w x.filling c.put_line.ensures (length_line codes) (omega arith) }

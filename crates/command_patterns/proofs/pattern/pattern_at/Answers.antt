@@ -7,8 +7,8 @@ use native.Mathlib.Omega.{arith}
 use native.Mathlib.Numerals.{add-one}
 use mathlib.Core.Path.{◌≡◌, refl, sym, ap, subst, ◌∙◌}
 use mathlib.Core.List.{List, [], ◌∷◌, ◌++◌, append-nil, append_assoc}
-use Rattle.command_patterns.specs.Patterns.{count, digits, pattern_at}
-use Rattle.command_patterns.specs.Held.{held, pattern_or_none}
+use Rattle.std.specs.Prelude.{Some}
+use Rattle.command_patterns.specs.Patterns.{count, digits, pattern_at, pattern_or_none}
 use Rattle.command_patterns.proofs.Held.{zeros_before, is_held}
 use Rattle.command_patterns.proofs.Numbers.{last_digit, one_digit_fewer, of_five}
 use Rattle.command_patterns.proofs.pattern.pattern_at.Goals as goal
@@ -36,7 +36,7 @@ fewer : (left first : ℕ) → left ≤ count first → 0 < left → (1 ≤ firs
 fewer left first h p = one_digit_fewer first (left - 1) (let e : suc (left - 1) ≤ count first = omega arith in e)
 
 pub returns-then-rank-ge-COUNT : goal.returns-then-rank-ge-COUNT
-unfolding pattern_or_none held
+unfolding pattern_or_none
 returns-then-rank-ge-COUNT c = simp (le-ltb c.args.rank (count 5) (omega (arith, of_five)))
 
 pub loop-left-init : goal.loop-left-init
@@ -62,12 +62,13 @@ loop-left-preserved c =
           ∙ ap (λ (j : ℕ). digits (suc (l.left - 1)) (suc (l.left - 1)) ++ drop j l.codes) m),
     )
 
+pub invariant_of-result : goal.invariant_of-result
+invariant_of-result c = let l = c.loop-left in is_held l.codes _ l.first l.invariant.0 l.invariant.1 l.invariant.3 refl
+
 pub returns : goal.returns
 unfolding pattern_or_none
 returns c =
     let l = c.loop-left in
-    let rank = c.args.rank in
     let z : l.left ≡ 0 = omega arith in
-    rw (lt-ltb rank (count 5) (omega (arith, of_five)))
-    (is_held l.codes (pattern_at rank) l.first l.invariant.0 l.invariant.1 l.invariant.3
-    (l.invariant.4 ∙ ap (λ (k : ℕ). digits k k ++ drop l.first l.codes) z))
+    let e = l.invariant.4 ∙ ap (λ (k : ℕ). digits k k ++ drop l.first l.codes) z in
+    rw (lt-ltb c.args.rank (count 5) (omega (arith, of_five))) (ap (λ (p : List ℕ). Some p) (sym e))
