@@ -45,6 +45,7 @@ pub const ROOM: usize = 167940;
 // Puts what the program prints at the start of the buffer, and answers how many bytes that is. The front is the first three bytes of its input, or all
 // that there are.
 pub fn answer(front: &[u8], out: &mut [u8; ROOM]) -> usize
+    ensures within { result ≤ length out.new }
     ensures length_printed { (input : List ℕ) → take 3 input ≡ front.now → result ≡ length (printed input) }
     ensures bytes_printed { (input : List ℕ) → take 3 input ≡ front.now → out.new ≡ printed input ++ drop result out.old }
 {

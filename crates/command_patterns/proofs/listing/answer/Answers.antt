@@ -1,5 +1,5 @@
 -- By the number that the input asks for, which its first three bytes decide.
-use Rattle.std.proofs.Common.{length, take, ℕ, ◌≡◌, sym, ap, ◌∙◌, refl, arith, List}
+use Rattle.std.proofs.Common.{length, take, ℕ, ◌≡◌, sym, ap, ◌∙◌, arith, List}
 use Rattle.std.specs.Prelude.{Option}
 use Rattle.command_patterns.specs.Listing.{number_in, printed_for, printed}
 use Rattle.command_patterns.proofs.Laws.{ten_inputs, three_bytes_decide}
@@ -16,12 +16,14 @@ list-requires c =
     let h = (ten_inputs c.args.front.now n).0 (sym c.number_in.ensures ∙ c.in-Some.is) in
     (h.1, omega (arith, listing_fits n h.1, c.told-out))
 
-pub returns-in-Some : goal.returns-in-Some
-returns-in-Some c =
-    let e = λ (input : List ℕ) (r : take 3 input ≡ c.args.front.now). asked input _ _ r (sym c.in-Some.is ∙ c.number_in.ensures) in
-    record { length_printed = λ input r. c.list.ensures.0 ∙ ap length (e input r); bytes_printed = λ input r. c.list.ensures.1 ∙ rw (← e input r) refl }
+pub returns-in-Some-clause-length_printed : goal.returns-in-Some-clause-length_printed
+returns-in-Some-clause-length_printed c input r = c.list.ensures.0 ∙ ap length (asked input _ _ r (sym c.in-Some.is ∙ c.number_in.ensures))
 
-pub returns-in-None : goal.returns-in-None
-returns-in-None c =
-    let e = λ (input : List ℕ) (r : take 3 input ≡ c.args.front.now). asked input _ _ r (sym c.in-None.is ∙ c.number_in.ensures) in
-    record { length_printed = λ input r. c.refuse.ensures.0 ∙ ap length (e input r); bytes_printed = λ input r. c.refuse.ensures.1 ∙ rw (← e input r) refl }
+pub returns-in-Some-clause-bytes_printed : goal.returns-in-Some-clause-bytes_printed
+returns-in-Some-clause-bytes_printed c input r = rw (← asked input _ _ r (sym c.in-Some.is ∙ c.number_in.ensures)) c.list.ensures.1
+
+pub returns-in-None-clause-length_printed : goal.returns-in-None-clause-length_printed
+returns-in-None-clause-length_printed c input r = c.refuse.ensures.0 ∙ ap length (asked input _ _ r (sym c.in-None.is ∙ c.number_in.ensures))
+
+pub returns-in-None-clause-bytes_printed : goal.returns-in-None-clause-bytes_printed
+returns-in-None-clause-bytes_printed c input r = rw (← asked input _ _ r (sym c.in-None.is ∙ c.number_in.ensures)) c.refuse.ensures.1
