@@ -1,12 +1,7 @@
 -- A buffer that is filled part by part from its start: what is written so far, then what is left, is the whole; past it the buffer is as it was.
-use lib.ListN.{length, take, drop, length-append, take-append-drop, drop_of_length-le}
-use lib.Seq.{drop-drop, length-take-le}
+use Rattle.std.proofs.Common.{length, take, drop, take-append-drop, drop_of_length-le, drop-drop, length-append, length-take, length-drop, arith, ℕ, ◌+◌, ◌≤◌, ◌≡◌, refl, sym, ap, ◌∙◌, List, [], ◌++◌, append-nil, append_assoc}
+use Rattle.std.proofs.lemmas.Slice.{take-put_mid, drop-put_mid}
 use borrow.Rule.Slice.PartMut.{put_mid}
-use Prim.Native.Nat.{ℕ, ◌+◌, ◌≤◌}
-use native.Mathlib.Omega.{arith}
-use mathlib.Core.Path.{◌≡◌, refl, sym, ap, ◌∙◌}
-use mathlib.Core.List.{List, [], ◌++◌, append-nil, append_assoc}
-use Rattle.words.proofs.Parts.{take_mid, drop_mid, length_mid}
 
 pub record Filling (whole now old left : List ℕ) (at : ℕ) : Type 0 where
   pub so_far : whole ≡ take at now ++ left
@@ -18,20 +13,22 @@ pub none_written : (whole old : List ℕ) → length whole ≤ length old → Fi
 none_written whole old h = record { so_far = refl; kept = refl; long = refl; room = omega arith }
 
 -- the next part is written, and came back as ys; its length is worked out as a difference of places
-pub part_written : {whole now old left ys : List ℕ} {at : ℕ} (part : List ℕ) (k n : ℕ)
+pub part_written : {whole now old left ys : List ℕ} {at : ℕ} (part : List ℕ) (k to : ℕ)
     → Filling whole now old (part ++ left) at
     → ys ≡ part
-    → length part ≡ n
-    → k ≡ n
-    → Filling whole (put_mid at k now ys) old left (at + n)
-part_written {whole} {now} {old} {left} {ys} {at} part k n f e l d =
+    → k ≡ length part
+    → to ≡ at + length part
+    → Filling whole (put_mid at k now ys) old left to
+part_written {whole} {now} {old} {left} {ys} {at} part k to f e d t =
     let m = length-append part left in
-    let h : at + n ≤ length now = omega (arith, f.long, f.room) in
-    rw (d, e)
+    let h : at ≤ length now = omega (arith, f.long, f.room) in
+    rw (e, t)
     (record {
-      so_far = f.so_far ∙ sym (append_assoc (take at now) part left) ∙ ap (λ (w : List ℕ). w ++ left) (sym (take_mid now part at n h l));
-      kept = drop_mid now part at n h l ∙ ap (drop n) f.kept ∙ drop-drop n at old;
-      long = length_mid at n now part h l ∙ f.long;
+      so_far = rw (take-put_mid at k now part (at + length part) refl h, append_assoc) f.so_far;
+      kept =
+          drop-put_mid at k now part (at + length part) (omega arith) h (sym d)
+          ∙ simp (← drop-drop) (ap (drop (length part)) f.kept);
+      long = simp (length-append, length-take, length-drop) (omega (arith, f.long, f.room));
       room = omega (arith, f.room);
     })
 
@@ -41,14 +38,10 @@ part_fits part left f = omega (arith, length-append part left, f.long, f.room)
 
 module _ {whole now old : List ℕ} {at : ℕ} (f : Filling whole now old [] at) where
   pub written : at ≡ length whole
-  written =
-      let h : at ≤ length now = omega (arith, f.long, f.room) in
-      sym (ap length (f.so_far ∙ append-nil (take at now)) ∙ length-take-le at now h)
+  written = rw f.so_far (simp (append-nil, length-take) (omega (arith, f.long, f.room)))
 
   pub filled : now ≡ whole ++ drop at old
-  filled =
-      sym (ap (λ (w : List ℕ). w ++ drop at old) (f.so_far ∙ append-nil (take at now))
-      ∙ ap (λ (w : List ℕ). take at now ++ w) (sym f.kept) ∙ take-append-drop at now)
+  filled = rw (f.so_far, append-nil, ← f.kept) (sym (take-append-drop at now))
 
 -- a buffer that the whole just fills
 pub whole_written : {whole now old : List ℕ} {at : ℕ} → Filling whole now old [] at → length old ≡ length whole → now ≡ whole

@@ -1,13 +1,6 @@
 -- Numbers in the digits 1 to 6 are in the order of the patterns: shorter ones first, equal lengths by code.
-use lib.Dec.{T, leb, leb→le, le→leb}
-use lib.ListN.{length}
-use Prim.Native.Nat.{ℕ, ◌+◌, ◌*◌, ◌≤◌, ◌<◌}
-use native.Mathlib.Decide.{dec_lt}
-use native.Mathlib.Omega.{arith}
-use mathlib.Core.Path.{◌≡◌, refl, sym, ap, subst}
-use mathlib.Core.Logic.{inl, inr}
-use mathlib.Core.Bool.{Bool, true, false, ◌&&◌}
-use mathlib.Core.List.{List, [], ◌∷◌}
+use Rattle.std.proofs.Common.{T, leb, leb→le, le→leb, length, ℕ, ◌+◌, ◌*◌, ◌≤◌, ◌<◌, arith, ◌≡◌, refl, sym, ap, subst, inl, inr, Bool, true, false, ◌&&◌, List, [], ◌∷◌}
+use Rattle.std.proofs.lemmas.Bool.{cases_lt, cases_order}
 use Rattle.command_patterns.specs.Patterns.{is_code, all_codes, ByCode, ComesBefore, number_from}
 
 pub and_parts : (a b : Bool) → T (a && b) → T a × T b
@@ -28,14 +21,6 @@ range_code c l h = and_both (leb 1 c) (leb c 6) (le→leb 1 c l) (le→leb c 6 h
 pub first_code : (c : ℕ) (p : List ℕ) → T (all_codes (c ∷ p)) → (1 ≤ c) × (c ≤ 6) × T (all_codes p)
 first_code c p t =
     let u = and_parts (is_code c) (all_codes p) t in let h = code_range c u.0 in (h.0, h.1, u.1)
-
--- how two numbers compare
-if_less : {A : Type 0} {a b : ℕ} → Dec (a < b) → (a < b → A) → (b ≤ a → A) → A
-if_less (yes h) x y = x h
-if_less (no h) x y = y (omega (arith, h))
-
-by_order : {A : Type 0} (a b : ℕ) → (a < b → A) → (a ≡ b → A) → (b < a → A) → A
-by_order a b x y z = if_less (dec_lt a b) x (λ h. if_less (dec_lt b a) z (λ k. y (omega arith)))
 
 -- ---- the lower of two numbers
 -- lists of one length after digits that come to less
@@ -66,10 +51,10 @@ shorter : (b d : ℕ) (p q : List ℕ) → length p < length q → T (all_codes 
 shorter b d p [] l s t h = absurd (omega arith)
 shorter b d p (y ∷ q) l s t h =
     let v = first_code y q t in
-    if_less
-    (dec_lt (length p) (length q))
-    (λ m. shorter b (6 * d + y) p q m s v.2 (omega arith))
-    (λ m. below b (6 * d + y) p q (omega arith) s v.2 (omega arith))
+    elim (cases_lt (length p) (length q)) [
+      | inl m ↦ shorter b (6 * d + y) p q m s v.2 (omega arith)
+      | inr m ↦ below b (6 * d + y) p q (omega arith) s v.2 (omega arith)
+    ]
 
 pub lower : (p q : List ℕ) → T (all_codes p) → T (all_codes q) → ComesBefore p q → number_from 0 p < number_from 0 q
 lower p q s t (inl l) = shorter 0 0 p q l s t (omega arith)
@@ -93,17 +78,19 @@ of_one_length [] [] l = same refl
 of_one_length [] (y ∷ q) l = absurd (omega arith)
 of_one_length (x ∷ p) [] l = absurd (omega arith)
 of_one_length (x ∷ p) (y ∷ q) l =
-    by_order x y
-    (λ (h : x < y). first (inr (l, inl h)))
-    (λ (h : x ≡ y). subst (λ (z : ℕ). Compared (x ∷ p) (z ∷ q)) h (with_code x p q (omega arith) (of_one_length p q (omega arith))))
-    (λ (h : y < x). last (inr (sym l, inl h)))
+    elim (cases_order x y) [
+      | inl h ↦ subst (λ (z : ℕ). Compared (x ∷ p) (z ∷ q)) h (with_code x p q (omega arith) (of_one_length p q (omega arith)))
+      | inr (inl h) ↦ first (inr (l, inl h))
+      | inr (inr h) ↦ last (inr (sym l, inl h))
+    ]
 
 pub compared : (p q : List ℕ) → Compared p q
 compared p q =
-    by_order (length p) (length q)
-    (λ (h : length p < length q). first (inl h))
-    (λ (h : length p ≡ length q). of_one_length p q h)
-    (λ (h : length q < length p). last (inl h))
+    elim (cases_order (length p) (length q)) [
+      | inl h ↦ of_one_length p q h
+      | inr (inl h) ↦ first (inl h)
+      | inr (inr h) ↦ last (inl h)
+    ]
 
 -- ---- a number has one writing
 pub one_writing : (p q : List ℕ) → T (all_codes p) → T (all_codes q) → number_from 0 p ≡ number_from 0 q → Compared p q → p ≡ q

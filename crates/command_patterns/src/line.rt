@@ -17,12 +17,8 @@ pub fn put_line(codes: &[u8], out: &mut [u8])
     requires { T (all_codes codes.now) × (length out.old ≡ length (line codes.now)) }
     ensures { out.new ≡ line codes.now }
 {
-    let mut at = 0;
-    for &code in codes {
-        let to = at + 3;
-        put_code(code, b' ', &mut out[at..to]);
-        at = to;
+    for (i, &code) in codes.iter().enumerate() {
+        put_code(code, b' ', &mut out[3 * i..3 * i + 3]);
     }
-    let to = at + 3;
-    put_code(0, b'\n', &mut out[at..to]);
+    put_code(0, b'\n', &mut out[3 * codes.len()..]);
 }

@@ -62,5 +62,7 @@ loop-rank-preserved c =
     let x = next c.requires.0 c.loop-rank.invariant.all c.loop-rank-test.true c.codes-codes.ensures c.unwrap-p.ensures c.pattern_at.ensures c.loop-rank.invariant.filling in
     let l = c.loop-rank in
     let codes = c.codes-codes.result.now in
-    let w = 3 * (length codes + 1) in
-    record { all = l.invariant.all; filling = part_written _ (l.at + w - l.at) w x.filling c.put_line.ensures (length_line codes) (omega arith) }
+    record {
+      all = l.invariant.all;
+      filling = part_written (line codes) _ _ x.filling c.put_line.ensures (omega (arith, length_line codes)) (omega (arith, length_line codes));
+    }
