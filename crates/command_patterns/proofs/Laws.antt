@@ -1,13 +1,13 @@
 -- The claims of specs/Laws.antt.
 use lib.Dec.{T, eqb, leb, leb→le, le→leb}
 use lib.ListN.{length, get_or}
-use borrow.Author.Tests.{leb-true, eqb-true, le-leb}
 use Prim.Native.Nat.{ℕ, zero, suc, ◌+◌, ◌-◌, ◌≤◌, ◌<◌}
 use native.Mathlib.Omega.{arith}
 use mathlib.Core.Path.{◌≡◌, refl, sym, ap, subst, ◌∙◌}
 use mathlib.Core.Logic.{◌⊎◌, inl, inr}
-use mathlib.Core.Bool.{Bool, true, false, cond, ◌&&◌}
+use mathlib.Core.Bool.{cond, ◌&&◌}
 use mathlib.Core.List.{List, [], ◌∷◌}
+use Rattle.std.proofs.lemmas.Bool.Decides.{nat_tests}
 use Rattle.std.specs.Prelude.{None, Some}
 use Rattle.command_patterns.specs.Patterns.{all_codes, is_pattern, ComesBefore, count, number_from, rank, digits, pattern_at, patterns_from, patterns}
 use Rattle.command_patterns.specs.Listing.{line_feed, code_then, line, listing, digit_of, number_in, printed}
@@ -127,21 +127,14 @@ line_shows_pattern (c ∷ p) (d ∷ q) e =
     let f : line p ≡ line q = cc in cc (line_shows_pattern p q f)
 
 -- ---- inputs
-module _ (d n : ℕ) where
-  digit_if : (a b : Bool) → (a ≡ true → 49 ≤ d) → (b ≡ true → d ≤ 53) → cond (a && b) (Some (d - 48)) None ≡ Some n → (1 ≤ n) × (n ≤ 5) × (d ≡ 48 + n)
-  digit_if true true l h e = let m : d - 48 ≡ n = cc in (omega (arith, l refl), omega (arith, h refl), omega (arith, l refl))
-  digit_if true false l h e = cc
-  digit_if false b l h e = cc
+digit_taken : (d n : ℕ) → digit_of d ≡ Some n → (1 ≤ n) × (n ≤ 5) × (d ≡ 48 + n)
+digit_taken d n e = grind (arith, nat_tests)
 
-  digit_taken : digit_of d ≡ Some n → (1 ≤ n) × (n ≤ 5) × (d ≡ 48 + n)
-  digit_taken e = digit_if (leb 49 d) (leb d 53) (leb-true 49 d) (leb-true d 53) e
-
-  line_fed : (f : Bool) → cond f (digit_of d) None ≡ Some n → (f ≡ true) × ((1 ≤ n) × (n ≤ 5) × (d ≡ 48 + n))
-  line_fed true e = (refl, digit_taken e)
-  line_fed false e = cc
+feed_taken : (d f n : ℕ) → cond (eqb f line_feed) (digit_of d) None ≡ Some n → (f ≡ line_feed) × (1 ≤ n) × (n ≤ 5) × (d ≡ 48 + n)
+feed_taken d f n e = grind (arith, nat_tests)
 
 digit_read : (n : ℕ) → 1 ≤ n → n ≤ 5 → digit_of (48 + n) ≡ Some n
-digit_read n l h = rw (le-leb 49 (48 + n) (omega arith), le-leb (48 + n) 53 (omega arith)) (ap (λ m. Some m) (omega arith))
+digit_read n l h = grind (arith, nat_tests)
 
 abbrev Taken : List ℕ → ℕ → Type 0
 Taken input n = (1 ≤ n) × (n ≤ 5) × ((input ≡ (48 + n) ∷ []) ⊎ (input ≡ (48 + n) ∷ line_feed ∷ []))
@@ -150,8 +143,7 @@ taken : (input : List ℕ) (n : ℕ) → number_in input ≡ Some n → Taken in
 unfolding number_in
 taken [] n e = cc
 taken (d ∷ []) n e = let t = digit_taken d n e in (t.0, t.1, inl (ap (λ (x : ℕ). x ∷ []) t.2))
-taken (d ∷ f ∷ []) n e =
-    let t = line_fed d n (eqb f line_feed) e in let g = eqb-true f line_feed t.0 in (t.1.0, t.1.1, inr (cc (t.1.2, g)))
+taken (d ∷ f ∷ []) n e = let t = feed_taken d f n e in (t.1, t.2, inr (cc (t.0, t.3)))
 taken (d ∷ f ∷ g ∷ rest) n e = cc
 
 read : (input : List ℕ) (n : ℕ) → Taken input n → number_in input ≡ Some n
