@@ -1,5 +1,4 @@
 pub mod Filling
-pub mod Held
 pub mod Inputs
 pub mod Laws
 pub mod Lines

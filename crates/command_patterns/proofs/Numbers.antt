@@ -85,11 +85,11 @@ digits_enough most k h =
 pub last_digit : (k : ℕ) → digits (suc k) (suc k) ≡ digits (k / 6) (k / 6) ++ ((k % 6 + 1) ∷ [])
 last_digit k = ap (λ (p : List ℕ). p ++ ((k % 6 + 1) ∷ [])) (digits_enough k (k / 6) (div-le_self k 6))
 
-pub one_digit_fewer : (n k : ℕ) → suc k ≤ count n → (1 ≤ n) × (k / 6 ≤ count (n - 1))
-one_digit_fewer zero k h = absurd (omega (arith, none_of_no_commands))
-one_digit_fewer (suc n) k h =
+pub one_digit_fewer : (left n : ℕ) → left ≤ count n → 0 < left → (1 ≤ n) × ((left - 1) / 6 ≤ count (n - 1))
+one_digit_fewer left zero h l = absurd (omega (arith, none_of_no_commands))
+one_digit_fewer left (suc n) h l =
     let e : n ≡ suc n - 1 = omega arith in
-    (omega arith, subst (λ (m : ℕ). k / 6 ≤ count m) e (omega (arith, count_step n, div-add-mod k 6)))
+    (omega arith, subst (λ (m : ℕ). (left - 1) / 6 ≤ count m) e (omega (arith, count_step n, div-add-mod (left - 1) 6)))
 
 pub of_five : count 5 ≡ 9330
 unfolding count

@@ -17,6 +17,7 @@ pub fn put_line(codes: &[u8], out: &mut [u8])
     requires { T (all_codes codes.now) × (length out.old ≡ length (line codes.now)) }
     ensures { out.new ≡ line codes.now }
 {
+    // No `chunks_exact_mut`: nothing is known of the whole after it.
     for (i, &code) in codes.iter().enumerate() {
         put_code(code, b' ', &mut out[3 * i..3 * i + 3]);
     }

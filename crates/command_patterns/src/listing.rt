@@ -42,8 +42,8 @@ fn refuse(out: &mut [u8]) -> usize
 // Room for every line at the width of the longest: 9,330 of 18 bytes.
 pub const ROOM: usize = 167940;
 
-// Puts what the program prints at the start of the buffer, and answers how many bytes that is. The front is the first three bytes of its input, or all
-// that there are.
+// Puts what the program prints at the start of the buffer, and answers how many bytes that is: not that part itself, as what lies past it is promised
+// too. The front is the first three bytes of its input, or all that there are.
 pub fn answer(front: &[u8], out: &mut [u8; ROOM]) -> usize
     ensures within { result ≤ length out.new }
     ensures length_printed { (input : List ℕ) → take 3 input ≡ front.now → result ≡ length (printed input) }

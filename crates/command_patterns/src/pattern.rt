@@ -1,4 +1,5 @@
-// A pattern, and its rank: its codes are the digits, 1 to 6, of a number to base six, which is one more than the rank.
+// A pattern, and its rank: its codes are the digits, 1 to 6, of a number to base six, which is one more than the rank. So a code stays a number: a
+// rank is worked out of it, and its digit in a line.
 
 ghost use Rattle.std.specs.Prelude.{◌≡◌};
 ghost use Rattle.command_patterns.specs.Patterns.{is_code, pattern_or_none, rank_or_none};
@@ -8,7 +9,7 @@ use std::marker::Model;
 // As many as there are of one up to five commands.
 pub const COUNT: u64 = 9330;
 
-// Its codes are those from `first` on.
+// Its codes are those from `first` on, in an array, as there is no heap; zeros stand before them.
 #[derive(Clone, Copy)]
 pub struct Pattern {
     codes: [u8; 5],
@@ -46,14 +47,15 @@ pub fn pattern_at(rank: u64) -> Option<Pattern>
     if COUNT <= rank {
         return None;
     }
+    // The last code comes first. How many there are shows only when none is left, so that the place counts down by itself.
     let mut codes = [0; 5];
     let mut first = 5;
     let mut left = rank + 1;
     while 0 < left {
-        let k = left - 1;
+        left -= 1;
         first -= 1;
-        codes[first] = (k % 6 + 1) as u8;
-        left = k / 6;
+        codes[first] = (left % 6 + 1) as u8;
+        left /= 6;
     }
     Some(Pattern { codes, first })
 }

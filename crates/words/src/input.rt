@@ -10,8 +10,7 @@ fn word_at(operands: &[u8], k: usize) -> u64
     requires { (k < 8) × (8 * k + 8 ≤ length operands.now) }
     ensures { result ≡ word_at operands.now k }
 {
-    let at = 8 * k;
-    let word = operands[at..].first_chunk::<8>().unwrap();
+    let word = operands[8 * k..].first_chunk::<8>().unwrap();
     u64::from_le_bytes(*word)
 }
 
