@@ -14,7 +14,6 @@ use table::refusal::Refusal;
 use table::reply::Reply;
 use words::input;
 
-#[tactic(auto, unfolding(table::specs::Turns::turn_of, table::specs::Turns::work_of, table::specs::Turns::refusal_of, table::specs::Turns::finite_from, table::specs::Turns::flags_from, table::specs::Turns::in_range_from, table::specs::Turns::first_failing, table::specs::Turns::reply_in, table::specs::Table::parallel, arc_ends::specs::Ends::ends_of, arc_ends::specs::Ends::ends_finite, arc_ends::specs::Ends::ends_in_range, arc_ends::specs::Ends::edge_of))]
 pub fn reply(operands: &[u8]) -> Result<Reply, Refusal>
     requires { length operands.now ≡ 40 }
     ensures { (s : State) → result ≡ (turn_of parallel s operands.now).reply }

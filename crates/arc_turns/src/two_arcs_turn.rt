@@ -15,7 +15,6 @@ use two_arcs::meeting;
 use two_arcs::meeting::NoMeeting;
 
 // A crossing, or refusal 12 where there is no candidate; no allowance has a part in it.
-#[tactic(auto, unfolding(table::specs::Turns::reply_in, table::specs::Table::meeting_work))]
 fn crossing_or_refusal(m: Result<Vect3, NoMeeting>) -> Result<Reply, Refusal>
     ensures { (n : ℕ) → result ≡ reply_in n (meeting_work m) }
 {
@@ -26,7 +25,6 @@ fn crossing_or_refusal(m: Result<Vect3, NoMeeting>) -> Result<Reply, Refusal>
     }
 }
 
-#[tactic(auto, unfolding(table::specs::Turns::turn_of, table::specs::Turns::work_of, table::specs::Turns::refusal_of, table::specs::Turns::finite_from, table::specs::Turns::flags_from, table::specs::Turns::in_range_from, table::specs::Turns::first_failing, table::specs::Turns::reply_in, table::specs::Table::two_arcs, arc_ends::specs::Ends::ends_of, arc_ends::specs::Ends::ends_finite, arc_ends::specs::Ends::ends_in_range, arc_ends::specs::Ends::edge_of))]
 pub fn reply(operands: &[u8]) -> Result<Reply, Refusal>
     requires { length operands.now ≡ 64 }
     ensures { (s : State) → result ≡ (turn_of two_arcs s operands.now).reply }

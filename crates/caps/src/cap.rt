@@ -152,7 +152,7 @@ fn plan_within_turn(p1: Coo3D, p2: Coo3D, precision: f64) -> Cap<Plan>
     }
 }
 
-// The plan where p1 has not the larger longitude.
+// The plan where p1 has not the larger longitude. Here and elsewhere the two ends stay two parameters: they are exchanged, compared and moved one by one.
 #[tactic(auto, unfolding(crate::specs::Caps::ordered_plan_in_pc))]
 fn ordered_plan_in_pc(p1: Coo3D, p2: Coo3D, precision: f64) -> Cap<Plan>
     ensures { result ≡ ordered_plan_in_pc p1 p2 precision }

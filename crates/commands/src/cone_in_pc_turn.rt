@@ -12,7 +12,6 @@ use table::reply::Reply;
 use table::state::State;
 use words::input;
 
-#[tactic(auto, unfolding(table::specs::Turns::turn_of, table::specs::Turns::work_of, table::specs::Turns::refusal_of, table::specs::Turns::finite_from, table::specs::Turns::flags_from, table::specs::Turns::in_range_from, table::specs::Turns::first_failing, table::specs::Turns::reply_in, table::specs::Table::cone_in_pc, table::specs::States::given_of, table::specs::States::needs_settings))]
 pub fn reply(state: State, operands: &[u8]) -> Result<Reply, Refusal>
     requires { length operands.now ≡ 34 }
     ensures { result ≡ (turn_of cone_in_pc state operands.now).reply }

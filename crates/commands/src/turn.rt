@@ -1,4 +1,4 @@
-// One turn, by the code: the reply, and the state that it leaves.
+// One turn, by the code: the reply, and the state that it leaves. A match and no table of functions: each module takes what its code needs.
 
 ghost use Rattle.std.specs.Prelude.{◌≡◌, length};
 ghost use Rattle.table.specs.Codes.{code_byte};

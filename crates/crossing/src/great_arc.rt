@@ -17,6 +17,7 @@ pub struct GreatArc {
 }
 
 impl GreatArc {
+    #[tactic(auto, unfolding(crate::specs::GreatArcs::great_arc, coo3d::specs::Vectors::normalized_of))]
     pub fn new(p1: Vect3, p2: Vect3) -> GreatArc
         ensures { result ≡ great_arc p1 p2 }
     {
@@ -32,6 +33,7 @@ impl GreatArc {
     }
 
     // The two scalar product tests: whether v is no farther from either end than the ends are from each other.
+    #[tactic(auto, unfolding(crate::specs::GreatArcs::passes_of))]
     pub fn passes(self, v: Vect3) -> bool
         ensures { result ≡ passes_of self v }
     {

@@ -19,7 +19,7 @@ pub enum NoCrossing {
     NoRoot,
 }
 
-// How an arc is crossed, whatever the height.
+// How an arc is crossed, whatever the height. A value and no closure, as one choice serves both heights at which an arc is split.
 #[derive(Clone, Copy)]
 pub enum Rule {
     NearMeridian,
@@ -27,6 +27,7 @@ pub enum Rule {
     Quadratic,
 }
 
+#[tactic(auto, unfolding(crate::specs::Parallels::strictly_between))]
 pub fn strictly_between(a: f64, z: f64, b: f64) -> bool
     ensures { result ≡ strictly_between a z b }
 {
@@ -34,6 +35,7 @@ pub fn strictly_between(a: f64, z: f64, b: f64) -> bool
 }
 
 impl GreatArc {
+    #[tactic(auto, unfolding(crate::specs::Parallels::first_that_passes))]
     fn first_that_passes(self, v: Vect3, w: Vect3) -> Result<Vect3, NoCrossing>
         ensures { result ≡ first_that_passes self v w }
     {
@@ -46,6 +48,7 @@ impl GreatArc {
         }
     }
 
+    #[tactic(auto, unfolding(crate::specs::Parallels::near_meridian))]
     fn near_meridian(self, z: f64) -> Result<Vect3, NoCrossing>
         ensures { result ≡ near_meridian self z }
     {
@@ -55,6 +58,7 @@ impl GreatArc {
     }
 
     // On a short arc, the point of the chord, made a unit vector.
+    #[tactic(auto, unfolding(crate::specs::Parallels::short_arc))]
     fn short_arc(self, z: f64) -> Vect3
         ensures { result ≡ short_arc self z }
     {
@@ -65,6 +69,7 @@ impl GreatArc {
     }
 
     // The roots of a x² + b x + c.
+    #[tactic(auto, unfolding(crate::specs::Parallels::quadratic))]
     fn quadratic(self, z: f64) -> Result<Vect3, NoCrossing>
         ensures { result ≡ quadratic_of self z }
     {
@@ -82,6 +87,7 @@ impl GreatArc {
     }
 
     // The near-meridian rule comes before the short-arc rule.
+    #[tactic(auto, unfolding(crate::specs::Parallels::rule_of))]
     pub fn rule(self) -> Rule
         ensures { result ≡ rule_of self }
     {
@@ -108,6 +114,7 @@ impl GreatArc {
         }
     }
 
+    #[tactic(auto, unfolding(crate::specs::Parallels::crossing_of))]
     pub fn crossing(self, z: f64) -> Result<Vect3, NoCrossing>
         ensures { result ≡ crossing_of self z }
     {
@@ -115,6 +122,7 @@ impl GreatArc {
     }
 }
 
+#[tactic(auto, unfolding(crate::specs::Parallels::intersect_parallel))]
 pub fn intersect_parallel(p1: Vect3, p2: Vect3, z: f64) -> Result<Vect3, NoCrossing>
     ensures { result ≡ intersect_parallel p1 p2 z }
 {

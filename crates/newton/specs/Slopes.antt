@@ -8,8 +8,6 @@ use Rattle.angles.specs.Constants.{half, one_over_transition_z, two, three, quar
 use Rattle.angles.specs.Inverse.{acos_of}
 use Rattle.newton.specs.declared.slope.Cone.{Cone}
 use Rattle.newton.specs.declared.slope.Terms.{Terms}
-use Rattle.newton.specs.declared.slope.EqrSlope.{EqrSlope}
-use Rattle.newton.specs.declared.slope.NpcSlope.{NpcSlope}
 use Rattle.newton.specs.declared.slope.Slope.{Slope}
 use Rattle.newton.specs.declared.slope.Slope.TheVariants.{Equatorial, Polar}
 

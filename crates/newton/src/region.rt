@@ -20,6 +20,7 @@ pub fn cte_npc(north: bool) -> f64
     mirrored(north, EIGHTH_PI)
 }
 
+#[tactic(auto, unfolding(crate::specs::Regions::direction_of))]
 pub fn direction(east: bool) -> f64
     ensures { result ≡ direction_of east }
 {
@@ -27,6 +28,7 @@ pub fn direction(east: bool) -> f64
 }
 
 // A height of the south cap in the north cap, or back.
+#[tactic(auto, unfolding(crate::specs::Regions::mirrored_of))]
 pub fn mirrored(south: bool, z: f64) -> f64
     ensures { result ≡ mirrored_of south z }
 {

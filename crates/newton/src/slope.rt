@@ -52,6 +52,7 @@ struct Terms {
 }
 
 impl Cone {
+    #[tactic(auto, unfolding(crate::specs::Slopes::cone_of))]
     pub fn new(z0: f64, r: f64) -> Cone
         ensures { result ≡ cone_of z0 r }
     {
@@ -62,6 +63,7 @@ impl Cone {
         }
     }
 
+    #[tactic(auto, unfolding(crate::specs::Slopes::terms_of))]
     fn terms(self, z: f64) -> Terms
         ensures { result ≡ terms_of self z }
     {
@@ -85,6 +87,7 @@ impl Cone {
 
 impl Terms {
     // The second derivative of the longitude by z, times sqrt.
+    #[tactic(auto, unfolding(crate::specs::Slopes::second_of))]
     fn second(self, z0: f64) -> f64
         ensures { result ≡ second_of self z0 }
     {
@@ -145,6 +148,7 @@ impl NpcSlope {
 }
 
 // A zero has the sign of either.
+#[tactic(auto, unfolding(crate::specs::Slopes::have_same_sign))]
 pub fn have_same_sign(d1: f64, d2: f64) -> bool
     ensures { result ≡ have_same_sign d1 d2 }
 {

@@ -26,6 +26,7 @@ pub struct Walk {
     pub steps: u8,
 }
 
+#[tactic(auto, unfolding(crate::specs::Walks::limit_of))]
 pub fn limit(precision: f64, h: f64) -> f64
     ensures { result ≡ limit_of precision h }
 {
@@ -33,6 +34,7 @@ pub fn limit(precision: f64, h: f64) -> f64
 }
 
 impl Walk {
+    #[tactic(auto, unfolding(crate::specs::Walks::start_walk))]
     fn start(z: f64) -> Walk
         ensures { result ≡ start_walk z }
     {
@@ -44,12 +46,14 @@ impl Walk {
     }
 
     // A NaN is not greater than the limit.
+    #[tactic(auto, unfolding(crate::specs::Walks::going_of))]
     fn going(self, limit: f64) -> bool
         ensures { result ≡ going_of limit self }
     {
         float::abs(self.size) > limit
     }
 
+    #[tactic(auto, unfolding(crate::specs::Walks::step_of))]
     fn step(self, slope: Slope) -> Walk
         requires { self.steps < 255 }
         ensures { result ≡ step_of slope self }
@@ -63,6 +67,7 @@ impl Walk {
     }
 }
 
+// A while and no count of its own: the walk ends by its last step's size too, and the steps are part of what it answers.
 impl Start {
     pub fn walked(self, allowance: u8) -> Walk
         ensures { Walked self allowance result }

@@ -30,24 +30,28 @@ pub enum Ending {
     PcCone { south: bool },
 }
 
+#[tactic(auto, unfolding(crate::specs::Endings::accepted_eqr))]
 fn accepted_eqr(z: f64) -> bool
     ensures { result ≡ accepted_eqr z }
 {
     float::abs(z) < Coo3D::TRANSITION_Z
 }
 
+#[tactic(auto, unfolding(crate::specs::Endings::from_end_to_end))]
 fn from_end_to_end(z1: f64, z: f64, z2: f64) -> bool
     ensures { result ≡ from_end_to_end z1 z z2 }
 {
     ((z1 <= z2) & (z1 <= z) & (z <= z2)) | ((z2 < z1) & (z2 <= z) & (z <= z1))
 }
 
+#[tactic(auto, unfolding(crate::specs::Endings::accepted_npc))]
 fn accepted_npc(z: f64) -> bool
     ensures { result ≡ accepted_npc z }
 {
     float::is_finite(z) & (z > Coo3D::TRANSITION_Z)
 }
 
+#[tactic(auto, unfolding(crate::specs::Endings::eqr_arc))]
 fn eqr_arc(arc: GreatArc, z: f64) -> Answer
     ensures { result ≡ eqr_arc arc z }
 {
@@ -58,6 +62,7 @@ fn eqr_arc(arc: GreatArc, z: f64) -> Answer
     }
 }
 
+#[tactic(auto, unfolding(crate::specs::Endings::pc_arc))]
 fn pc_arc(arc: CapArc, z: f64) -> Answer
     ensures { result ≡ pc_arc arc z }
 {
@@ -69,6 +74,7 @@ fn pc_arc(arc: CapArc, z: f64) -> Answer
     }
 }
 
+#[tactic(auto, unfolding(crate::specs::Endings::eqr_cone))]
 fn eqr_cone(z: f64) -> Answer
     ensures { result ≡ eqr_cone z }
 {
@@ -79,6 +85,7 @@ fn eqr_cone(z: f64) -> Answer
     }
 }
 
+#[tactic(auto, unfolding(crate::specs::Endings::pc_cone))]
 fn pc_cone(south: bool, z: f64) -> Answer
     ensures { result ≡ pc_cone south z }
 {
@@ -92,6 +99,7 @@ fn pc_cone(south: bool, z: f64) -> Answer
 }
 
 impl Ending {
+    #[tactic(auto, unfolding(crate::specs::Endings::answer_at))]
     pub fn answer(self, z: f64) -> Answer
         ensures { result ≡ answer_at self z }
     {

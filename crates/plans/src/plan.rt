@@ -24,6 +24,7 @@ pub enum Plan {
 }
 
 impl Plan {
+    #[tactic(auto, unfolding(crate::specs::Plans::slot_at))]
     pub fn slot(self, allowance: u8) -> Slot
         ensures { result ≡ slot_at allowance self }
     {

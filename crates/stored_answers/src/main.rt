@@ -1,5 +1,6 @@
 // Replays job files with the answers that are stored for them, and says how many differ. host/ makes the input, from the reference and the
 // rules of document 01; its first 512 bytes are text that says so.
+// `io` and no `HostRuntime`: the runtime's own reading and writing would rest on one more assumed C function, the one that reads errno.
 
 #![tactic(auto)]
 

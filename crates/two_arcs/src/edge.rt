@@ -13,6 +13,7 @@ pub struct Edge {
 }
 
 impl Edge {
+    #[tactic(auto, unfolding(crate::specs::TwoArcs::cross_of_ends))]
     pub fn cross(self) -> Vect3
         ensures { result ≡ cross_of_ends self }
     {
@@ -20,6 +21,7 @@ impl Edge {
     }
 
     // Whether v is no farther from either end than the ends are from each other, and not on the far side of the sphere.
+    #[tactic(auto, unfolding(crate::specs::TwoArcs::passes_of))]
     pub fn passes(self, v: Vect3) -> bool
         ensures { result ≡ passes_of self v }
     {

@@ -14,13 +14,15 @@ pub enum NoMeeting {
     NoCandidate,
 }
 
+#[tactic(auto, unfolding(crate::specs::TwoArcs::passes_both))]
 fn passes_both(a: Edge, b: Edge, v: Vect3) -> bool
     ensures { result ≡ passes_both a b v }
 {
     a.passes(v) & b.passes(v)
 }
 
-// A candidate or its opposite.
+// A candidate or its opposite, which is made only where the candidate fails; so this is no twin of an arc's `first_that_passes`, which has both roots.
+#[tactic(auto, unfolding(crate::specs::TwoArcs::first_that_passes))]
 fn first_that_passes(a: Edge, b: Edge, v: Vect3) -> Option<Vect3>
     ensures { result ≡ first_that_passes a b v }
 {
@@ -31,6 +33,7 @@ fn first_that_passes(a: Edge, b: Edge, v: Vect3) -> Option<Vect3>
     if passes_both(a, b, w) { Some(w) } else { None }
 }
 
+#[tactic(auto, unfolding(crate::specs::TwoArcs::zero_or_nan))]
 fn zero_or_nan(norm: f64) -> bool
     ensures { result ≡ zero_or_nan norm }
 {
