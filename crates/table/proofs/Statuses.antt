@@ -9,7 +9,7 @@ use Rattle.table.specs.States.{Given, given_of, most_steps}
 use Rattle.table.specs.declared.refusal.Refusal.{Refusal}
 use Rattle.table.specs.Rows.{Work, refused, accepted, slots, cone, crossing}
 use Rattle.table.specs.Table.{row_of}
-use Rattle.table.specs.Turns.{first_failing, refusal_of, work_unless, work_of, status_in, reply_in, turn_of, status_of, reply_bytes, reply_of}
+use Rattle.table.specs.Turns.{first_failing, GivenFirst, refusal_of, work_unless, work_of, status_in, reply_in, turn_of, status_of, reply_bytes, reply_of}
 use Rattle.table.specs.StatusTen.{status_byte}
 use Rattle.table.specs.declared.state.State.{State}
 use Rattle.table.proofs.Cases.{number_or}
@@ -56,3 +56,7 @@ module _ (s : State) (code : ℕ) (b : List ℕ) where
       by : (o : Option Refusal) → refusal ≡ o → status_in (work_unless o ((row_of code).work (given_of s) b)) ≡ n → (refusal ≡ None) × (own ≡ n)
       by None e k = (e, k)
       by (Some r) e k = let m : number_or (Some r) ≤ 9 = subst (λ o. number_or o ≤ 9) e (low_refusal code (given_of s) b) in absurd (omega arith)
+
+pub given_first : GivenFirst
+unfolding first_failing
+given_first x f g r = refl

@@ -1,5 +1,5 @@
 -- One command, for any row of the table: document 01's refusals 6 to 9 in checking order, the reply, the state left, and the walks that begin.
--- Definitions, and a claim on the length of a reply; `proofs/ReplyLengths.antt` proves it.
+-- Definitions, and two claims, on the length of a reply and on what refuses first; `proofs/ReplyLengths.antt` and `proofs/Statuses.antt` prove them.
 use Rattle.std.specs.Prelude.{eqb, Float, length, get_or, replicate, ℕ, ◌+◌, ◌*◌, ◌≡◌, Bool, true, cond, not, ◌&&◌, List, [], ◌∷◌, Option, None, Some, Result, Ok, Err}
 use Rattle.angles.specs.Floats.{finite_of}
 use Rattle.newton.specs.declared.walk.Start.{Start}
@@ -127,3 +127,7 @@ walks_of s code b = walks_in (plans_of s code b)
 -- Every reply is as long as the table says for its code, refused or not.
 abbrev pub ReplyLength : Type 0
 ReplyLength = (s : State) (code : ℕ) (b : List ℕ) → length (reply_of s code b) ≡ 2 + answer_width code
+
+-- What refuses by what is given comes before 7 to 9.
+abbrev pub GivenFirst : Type 0
+GivenFirst = (refusal : Refusal) (finite flags ranged : Bool) → first_failing (Some refusal) finite flags ranged ≡ Some refusal
