@@ -33,11 +33,11 @@ fn first_that_passes(a: Edge, b: Edge, v: Vect3) -> Option<Vect3>
     if passes_both(a, b, w) { Some(w) } else { None }
 }
 
-#[tactic(auto, unfolding(crate::specs::TwoArcs::zero_or_nan))]
+#[tactic(auto, using(angles::proofs::Floats::nan_by_test), unfolding(crate::specs::TwoArcs::zero_or_nan))]
 fn zero_or_nan(norm: f64) -> bool
     ensures { result ≡ zero_or_nan norm }
 {
-    (norm == 0.0) | (norm != norm)
+    (norm == 0.0) | norm.is_nan()
 }
 
 #[tactic(auto, unfolding(crate::specs::TwoArcs::intersect_arcs, crate::specs::TwoArcs::cross_of_arcs, coo3d::specs::Vectors::normalized_of))]
