@@ -52,6 +52,7 @@ fn cosine_series(r: f64) -> f64
 }
 
 // Sine and cosine of an r from 0 to π/2.
+#[tactic(auto, unfolding(crate::specs::Circular::within_quarter_turn))]
 fn within_quarter_turn(r: f64) -> SinCos
     ensures { result ≡ within_quarter_turn r }
 {
@@ -107,6 +108,7 @@ impl SinCos {
     }
 
     // Sine and cosine of v, from those of |v|.
+    #[tactic(auto, unfolding(crate::specs::Circular::signed_sine))]
     fn signed(self, set: bool) -> SinCos
         ensures { result ≡ signed_sine set self }
     {

@@ -23,6 +23,7 @@ pub fn abs(x: f64) -> f64
 }
 
 // x with its sign bit set or cleared.
+#[tactic(auto, unfolding(crate::specs::Floats::signed_of))]
 pub fn signed(set: bool, x: f64) -> f64
     ensures { result ≡ signed_of set x }
 {

@@ -7,6 +7,7 @@ use super::{HALF_PI, PI, float, series};
 use root::patterns;
 
 // From the tangent of an angle to the tangent of its half.
+#[tactic(auto, unfolding(crate::specs::Inverse::half_angle))]
 fn half_angle(t: f64) -> f64
     ensures { result ≡ half_angle t }
 {
@@ -40,6 +41,7 @@ fn arctangent(t: f64) -> f64
 }
 
 // The angle of the point (x, y), neither below 0.
+#[tactic(auto, unfolding(crate::specs::Inverse::first_quadrant))]
 fn first_quadrant(y: f64, x: f64) -> f64
     ensures { result ≡ first_quadrant y x }
 {
@@ -52,12 +54,14 @@ fn first_quadrant(y: f64, x: f64) -> f64
     }
 }
 
+#[tactic(auto, unfolding(crate::specs::Inverse::reflected_of))]
 fn reflected(set: bool, a: f64) -> f64
     ensures { result ≡ reflected_of set a }
 {
     if set { PI - a } else { a }
 }
 
+#[tactic(auto, unfolding(crate::specs::Inverse::atan2_of))]
 pub fn atan2(y: f64, x: f64) -> f64
     ensures { result ≡ atan2_of y x }
 {
@@ -69,6 +73,7 @@ pub fn atan2(y: f64, x: f64) -> f64
     }
 }
 
+#[tactic(auto, unfolding(crate::specs::Inverse::acos_of))]
 pub fn acos(c: f64) -> f64
     ensures { result ≡ acos_of c }
 {

@@ -43,7 +43,7 @@ impl ConeInPc {
         }
     }
 
-    // The source's cone_special_point_in_pc.
+    // The source's cone_special_point_in_pc. One line, as for the equatorial region: a trait with a law for both would be longer.
     pub fn special_point(self, settings: Settings) -> Slot
         ensures { result ≡ slot_at settings.allowance
             (cone_plan_in_pc self.z self.lon self.z0 self.radius self.east self.north settings.precision) }

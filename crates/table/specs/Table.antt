@@ -1,5 +1,5 @@
 -- Document 01, "Jobs and replies": the table of commands, a row for each code, and that of document 02's ask 3. Definitions only.
-use Rattle.std.specs.Prelude.{eqb, ltb, Float, length, get_or, ℕ, ◌+◌, ◌*◌, ◌≤◌, ◌<◌, Bool, List, [], ◌∷◌, Result, Ok, Err}
+use Rattle.std.specs.Prelude.{eqb, ltb, Float, length, get_or, ℕ, ◌+◌, ◌*◌, Bool, List, [], ◌∷◌, Result, Ok, Err}
 use Rattle.coo3d.specs.LonLats.{is_longitude, is_latitude}
 use Rattle.coo3d.specs.Points.{from_sph_coo, vect_of}
 use Rattle.coo3d.specs.declared.point.Coo3D.{Coo3D}
@@ -152,10 +152,6 @@ row_of code = get_or table code end
 
 abbrev pub in_table : ℕ → Bool
 in_table code = ltb code (length table)
-
--- a code of the table that has a reply
-abbrev pub Known : ℕ → Type 0
-Known code = (1 ≤ code) × (code < length table)
 
 -- the bytes of a code's operands, and those of its reply after code and status
 unfoldable pub width_in : Row → ℕ

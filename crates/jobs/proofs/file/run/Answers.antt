@@ -48,18 +48,6 @@ nothing_more s job at old (command code to) n = absurd n
 nothing_more s job at old end n = refl
 nothing_more s job at old (refusal number place) n = refl
 
-pub loop-command-init : goal.loop-command-init
-loop-command-init c =
-    let job = c.args.job.now in
-    let reply = c.args.reply.now in
-    let e = fitting_parsed job (length reply) c.requires in (
-      omega arith,
-      omega arith,
-      refl,
-      subst (λ (p : Parsed). Fitting p (length reply - 0)) e (subst (Fitting (file_of job)) (sym (sub-zero (length reply))) c.requires),
-      rw c.unset-state.ensures (ap (λ (p : Parsed). filled unset p reply) e),
-    )
-
 pub overflow_add-start : goal.overflow_add-start
 overflow_add-start c = let h = here c.in-Some.ensures.some c.loop-command.invariant.3 in omega (arith, h.wide, h.inside)
 
