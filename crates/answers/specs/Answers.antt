@@ -7,7 +7,6 @@ use Rattle.crossing.specs.declared.parallel.NoCrossing.TheVariants as crossing
 use Rattle.answers.specs.declared.answer.Answer.{Answer}
 use Rattle.answers.specs.declared.answer.Answer.TheVariants.{NoPiece, NoWalk, Rejected, Found, Height, NotBetween, NoRoot}
 use Rattle.answers.specs.declared.answer.Slot.{Slot}
-use Rattle.answers.specs.declared.answer.Numbers.{Numbers}
 
 abbrev pub slot_of : ℕ → Answer → Slot
 slot_of n a = record { steps = n; answer = a }
@@ -17,6 +16,11 @@ unfoldable pub without_walk : Answer → Slot
 without_walk a = slot_of 0 a
 
 -- the kind and the floats of a reply; a cone's has the first alone
+pub record Numbers : Type 0 where
+  pub kind : ℕ
+  pub first : Float
+  pub second : Float
+
 abbrev pub numbers : ℕ → Float → Float → Numbers
 numbers k a b = record { kind = k; first = a; second = b }
 

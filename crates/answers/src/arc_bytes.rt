@@ -3,7 +3,7 @@
 ghost use Rattle.std.specs.Prelude.{◌≡◌, length};
 ghost use Rattle.answers.specs.Bytes.{walked_bytes, slot_bytes, slots_bytes};
 
-use super::answer::{Numbers, Slot, Slots};
+use super::answer::{Answer, Slot, Slots};
 use words::output;
 
 // Kind, steps, and two floats.
@@ -11,18 +11,28 @@ fn put_walked(out: &mut [u8], kind: u8, steps: u8, lon: f64, lat: f64)
     requires { length out.old ≡ 18 }
     ensures { out.new ≡ walked_bytes kind steps lon lat }
 {
-    output::put_two(&mut out[0..2], kind, steps);
+    output::put(&mut out[0..2], [kind, steps]);
     output::put_float(&mut out[2..10], lon);
     output::put_float(&mut out[10..18], lat);
 }
 
-#[tactic(auto, unfolding(crate::specs::Bytes::slot_bytes))]
+#[tactic(auto, unfolding(crate::specs::Bytes::slot_bytes, crate::specs::Answers::numbers_of, crate::specs::Answers::kind_alone))]
 fn put_slot(slot: Slot, out: &mut [u8])
     requires { length out.old ≡ 18 }
     ensures { out.new ≡ slot_bytes slot }
 {
-    let n = Numbers::from(slot.answer);
-    put_walked(out, n.kind, slot.steps, n.first, n.second);
+    let answer = slot.answer;
+    let steps = slot.steps;
+    // A slot of an arc is never `Height`, which has the bytes of `numbers_of` all the same.
+    match answer {
+        Answer::NoPiece => put_walked(out, 0, steps, 0.0, 0.0),
+        Answer::NoWalk => put_walked(out, 1, steps, 0.0, 0.0),
+        Answer::Rejected => put_walked(out, 2, steps, 0.0, 0.0),
+        Answer::Found { lon, lat } => put_walked(out, 3, steps, lon, lat),
+        Answer::Height { z } => put_walked(out, 3, steps, z, 0.0),
+        Answer::NotBetween => put_walked(out, 4, steps, 0.0, 0.0),
+        Answer::NoRoot => put_walked(out, 5, steps, 0.0, 0.0),
+    }
 }
 
 pub fn put_slots(s: Slots, out: &mut [u8])

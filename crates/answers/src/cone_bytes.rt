@@ -3,7 +3,7 @@
 ghost use Rattle.std.specs.Prelude.{◌≡◌, length};
 ghost use Rattle.answers.specs.Bytes.{height_bytes, cone_bytes};
 
-use super::answer::{Numbers, Slot};
+use super::answer::{Answer, Slot};
 use words::output;
 
 // Kind, steps, and a float.
@@ -11,15 +11,25 @@ fn put_height(out: &mut [u8], kind: u8, steps: u8, z: f64)
     requires { length out.old ≡ 10 }
     ensures { out.new ≡ height_bytes kind steps z }
 {
-    output::put_two(&mut out[0..2], kind, steps);
+    output::put(&mut out[0..2], [kind, steps]);
     output::put_float(&mut out[2..10], z);
 }
 
-#[tactic(auto, unfolding(crate::specs::Bytes::cone_bytes))]
+#[tactic(auto, unfolding(crate::specs::Bytes::cone_bytes, crate::specs::Answers::numbers_of, crate::specs::Answers::kind_alone))]
 pub fn put_cone(slot: Slot, out: &mut [u8])
     requires { length out.old ≡ 10 }
     ensures { out.new ≡ cone_bytes slot }
 {
-    let n = Numbers::from(slot.answer);
-    put_height(out, n.kind, slot.steps, n.first);
+    let answer = slot.answer;
+    let steps = slot.steps;
+    // A cone is `Rejected` or `Height`; the other cases have the bytes of `numbers_of` all the same.
+    match answer {
+        Answer::NoPiece => put_height(out, 0, steps, 0.0),
+        Answer::NoWalk => put_height(out, 1, steps, 0.0),
+        Answer::Rejected => put_height(out, 2, steps, 0.0),
+        Answer::Found { lon, .. } => put_height(out, 3, steps, lon),
+        Answer::Height { z } => put_height(out, 3, steps, z),
+        Answer::NotBetween => put_height(out, 4, steps, 0.0),
+        Answer::NoRoot => put_height(out, 5, steps, 0.0),
+    }
 }

@@ -18,7 +18,7 @@ pub struct Ends {
     pub lat2: f64,
 }
 
-// From the k-th float on.
+// From the k-th float on, flat and in the order of the operands.
 #[tactic(auto, unfolding(crate::specs::Ends::ends_of))]
 pub fn ends_of(operands: &[u8], k: usize) -> Ends
     requires { (k ≤ 4) × (8 * k + 32 ≤ length operands.now) }
@@ -52,14 +52,16 @@ impl Ends {
             & lonlat::is_longitude(self.lon2)
             & lonlat::is_latitude(self.lat2)
     }
+}
+
+impl From<Ends> for Edge {
+    ghost from_gives = { λ e x. x ≡ edge_of e };
 
     #[tactic(auto, unfolding(crate::specs::Ends::edge_of))]
-    pub fn edge(self) -> Edge
-        ensures { result ≡ edge_of self }
-    {
+    fn from(e: Ends) -> Edge {
         Edge {
-            p1: Vect3::from(Coo3D::from_sph_coo(self.lon1, self.lat1)),
-            p2: Vect3::from(Coo3D::from_sph_coo(self.lon2, self.lat2)),
+            p1: Vect3::from(Coo3D::from_sph_coo(e.lon1, e.lat1)),
+            p2: Vect3::from(Coo3D::from_sph_coo(e.lon2, e.lat2)),
         }
     }
 }

@@ -12,6 +12,7 @@ use crossing::parallel;
 use table::refusal;
 use table::refusal::Refusal;
 use table::reply::Reply;
+use two_arcs::edge::Edge;
 use words::input;
 
 pub fn reply(operands: &[u8]) -> Result<Reply, Refusal>
@@ -23,7 +24,7 @@ pub fn reply(operands: &[u8]) -> Result<Reply, Refusal>
     let finite = e.finite() & float::is_finite(z);
     let in_range = e.in_range() & refusal::is_height(z);
     refusal::first_failing(finite, true, in_range)?;
-    let edge = e.edge();
+    let edge = Edge::from(e);
     let crossing = parallel::intersect_parallel(edge.p1, edge.p2, z);
     Ok(Reply::Crossing(Answer::from(crossing)))
 }

@@ -11,6 +11,7 @@ use coo3d::vect3::Vect3;
 use table::refusal;
 use table::refusal::Refusal;
 use table::reply::Reply;
+use two_arcs::edge::Edge;
 use two_arcs::meeting;
 use two_arcs::meeting::NoMeeting;
 
@@ -34,5 +35,5 @@ pub fn reply(operands: &[u8]) -> Result<Reply, Refusal>
     let finite = first.finite() & second.finite();
     let in_range = first.in_range() & second.in_range();
     refusal::first_failing(finite, true, in_range)?;
-    crossing_or_refusal(meeting::intersect_arcs(first.edge(), second.edge()))
+    crossing_or_refusal(meeting::intersect_arcs(Edge::from(first), Edge::from(second)))
 }

@@ -57,6 +57,7 @@ pub fn lonlat_of(v: Vect3) -> LonLat
     }
 }
 
+// Two angles and no `LonLat`, which is what is replied: those of a command are read and asked one by one.
 #[tactic(auto, unfolding(crate::specs::LonLats::vec3_of))]
 pub fn vec3_of(lon: f64, lat: f64) -> Vect3
     ensures { result ≡ vec3_of lon lat }

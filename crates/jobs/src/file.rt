@@ -1,4 +1,5 @@
-// Two passes over a job file: the first refuses it or counts the bytes of its replies, the second writes them.
+// Two passes over a job file: the first refuses it or counts the bytes of its replies, the second writes them. Each is a while over the place: an iterator
+// would have to end after the refusal that it gives, and the second pass needs the place to lend the operands.
 
 ghost use Rattle.std.specs.Prelude.{◌≡◌, length};
 ghost use Rattle.table.specs.States.{unset};
@@ -45,7 +46,7 @@ fn run(job: &[u8], reply: &mut [u8])
         let start = at + 1;
         let to = out + code.reply_width();
         let turn = turn::turn(&mut state, code, &job[start..end]);
-        reply::put(turn, code, &mut reply[out..to]);
+        reply::put(turn, u8::from(code), &mut reply[out..to]);
         at = end;
         out = to;
     }

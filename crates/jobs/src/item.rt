@@ -7,7 +7,7 @@ ghost use Rattle.jobs.specs.Passes.{command, NoCommand, item_told, item_at};
 use super::refusal::{Reason, Refusal};
 use table::code::Code;
 
-// A command, with the place past its operands.
+// A command, with the place past its operands: a place and no slice, as the next command is looked for there.
 #[derive(Clone, Copy)]
 pub struct Found {
     pub code: Code,

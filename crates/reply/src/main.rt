@@ -1,5 +1,6 @@
 // Copies the replies to a job file from standard input to standard output, or prints the number and the place of its refusal.
 // `io` and no `HostRuntime`: the runtime's own reading and writing would rest on one more assumed C function, the one that reads errno.
+// It has no formatter, so a refusal has no `Display`.
 
 #![tactic(auto)]
 

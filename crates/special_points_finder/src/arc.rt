@@ -48,7 +48,7 @@ fn slots(pieces: Pieces, settings: Settings) -> Slots
     }
 }
 
-// `Unsplit` is document 01's status 10.
+// `Unsplit` is document 01's status 10. The ends are two parameters as far down as the caps, which exchange and compare them.
 #[tactic(auto, unfolding(crate::specs::Arcs::arc_at))]
 pub fn arc_special_points(p1: Coo3D, p2: Coo3D, settings: Settings) -> Result<Slots, Unsplit>
     ensures { result ≡ arc_at settings.allowance (split_of p1 p2) settings.precision }

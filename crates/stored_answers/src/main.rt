@@ -18,7 +18,7 @@ const MOST: usize = 100000;
 // What the reply buffer holds before each run.
 const MARK: u8 = 0xa5;
 
-// A record's head: how long the job file and the reply buffer are, and what the run answers.
+// A record's head, in the numbers of finder_run: how long the job file and the reply buffer are, and what the run answers.
 #[derive(Clone, Copy)]
 struct Head {
     length: usize,

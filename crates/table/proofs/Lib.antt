@@ -1,4 +1,5 @@
 pub mod Cases
+pub mod Widths
 pub mod Laws
 pub mod ReplyLengths
 pub mod CommandAllowances

@@ -44,6 +44,7 @@ impl From<split::Unsplit> for Refusal {
     }
 }
 
+// One line each, as coo3d's two are: a function over the limits would be no shorter, and a range's `contains` has a contract over `partial_cmp`.
 #[tactic(auto, unfolding(crate::specs::Rows::is_height))]
 pub fn is_height(z: f64) -> bool
     ensures { result ≡ is_height z }

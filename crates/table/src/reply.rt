@@ -1,11 +1,9 @@
 // What a turn replies, and its bytes.
 
 ghost use Rattle.std.specs.Prelude.{◌≡◌, ◌+◌, Ok, length};
-ghost use Rattle.table.specs.Codes.{code_byte};
 ghost use Rattle.table.specs.Table.{answer_width};
 ghost use Rattle.table.specs.Turns.{Fits, status_of, answer_bytes, reply_bytes};
 
-use super::code::Code;
 use super::refusal::Refusal;
 use answers::answer::{Answer, Slot, Slots};
 use answers::{arc_bytes, cone_bytes, parallel_bytes};
@@ -56,11 +54,11 @@ fn put_rest(turn: Result<Reply, Refusal>, out: &mut [u8])
 }
 
 // The whole reply, in its own part of the reply buffer.
-pub fn put(turn: Result<Reply, Refusal>, code: Code, out: &mut [u8])
-    requires { (length out.old ≡ 2 + answer_width (code_byte code)) × Fits turn (answer_width (code_byte code)) }
-    ensures { out.new ≡ reply_bytes (code_byte code) turn }
+pub fn put(turn: Result<Reply, Refusal>, code: u8, out: &mut [u8])
+    requires { (length out.old ≡ 2 + answer_width code) × Fits turn (answer_width code) }
+    ensures { out.new ≡ reply_bytes code turn }
 {
     let end = out.len();
-    output::put_two(&mut out[0..2], u8::from(code), status(turn));
+    output::put(&mut out[0..2], [code, status(turn)]);
     put_rest(turn, &mut out[2..end]);
 }

@@ -1,23 +1,15 @@
 // Numbers and floats into parts of a reply, each part filled whole.
 
-ghost use Rattle.std.specs.Prelude.{◌≡◌, ◌∷◌, [], length, replicate};
+ghost use Rattle.std.specs.Prelude.{◌≡◌, length, replicate};
 ghost use Rattle.words.specs.Words.{bytes, float_bytes};
 
 use root::patterns;
 
-pub fn put_byte(out: &mut [u8], a: u8)
-    requires { length out.old ≡ 1 }
-    ensures { out.new ≡ a ∷ [] }
+pub fn put<const N: usize>(out: &mut [u8], part: [u8; N])
+    requires { length out.old ≡ N }
+    ensures { out.new ≡ part.entry }
 {
-    out[0] = a;
-}
-
-pub fn put_two(out: &mut [u8], a: u8, b: u8)
-    requires { length out.old ≡ 2 }
-    ensures { out.new ≡ a ∷ b ∷ [] }
-{
-    out[0] = a;
-    out[1] = b;
+    out.copy_from_slice(&part);
 }
 
 #[tactic(auto, using(crate::proofs::Eight::bytes_eight))]

@@ -9,7 +9,7 @@ use Rattle.answers.proofs.arc_bytes.put_walked.Goals as goal
 pub returns : goal.returns
 unfolding walked_bytes
 returns c =
-    let two = c.put_two in
+    let two = c.put in
     let lon = c.put_float in
     let lat = c.put_float-2 in
     let u1 = upto_more two.new.out 2 (upto_none c.args.out.now) (ap length two.ensures) in

@@ -9,7 +9,7 @@ use Rattle.answers.proofs.parallel_bytes.put_point.Goals as goal
 pub returns : goal.returns
 unfolding point_bytes
 returns c =
-    let byte = c.put_byte in
+    let byte = c.put in
     let lon = c.put_float in
     let lat = c.put_float-2 in
     let u1 = upto_more byte.new.out 1 (upto_none c.args.out.now) (ap length byte.ensures) in

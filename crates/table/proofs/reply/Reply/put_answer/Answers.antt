@@ -1,9 +1,7 @@
 -- By the reply: the part is as long as the answer, which is what its writer asks, and gets the answer's bytes.
-use lib.ListN.{length}
-use mathlib.Core.Path.{◌≡◌, refl, sym, subst, ◌∙◌}
+use mathlib.Core.Path.{◌≡◌, sym, subst, ◌∙◌}
 use Prim.Native.Nat.{ℕ}
-use native.Mathlib.Omega.{arith}
-use mathlib.Core.List.{List, [], ◌∷◌}
+use Rattle.std.proofs.lemmas.List.{nil_from_length}
 use Rattle.std.specs.Prelude.{Ok}
 use Rattle.table.specs.Turns.{Fits, answer_bytes}
 use Rattle.table.specs.declared.reply.Reply.{Reply}
@@ -12,10 +10,6 @@ use Rattle.table.proofs.reply.Reply.put_answer.Goals as goal
 
 fitting : (width : ℕ) {r v : Reply} → r ≡ v → Fits (Ok r) width → Fits (Ok v) width
 fitting width e f = subst (λ (x : Reply). Fits (Ok x) width) e f
-
-no_bytes : (xs : List ℕ) → length xs ≡ 0 → xs ≡ []
-no_bytes [] e = refl
-no_bytes (x ∷ xs) e = absurd (omega arith)
 
 pub put_slots-requires : goal.put_slots-requires
 unfolding answer_bytes
@@ -34,7 +28,7 @@ put_crossing-requires c =
 
 pub returns-in-Accepted : goal.returns-in-Accepted
 unfolding answer_bytes
-returns-in-Accepted c = let told = c.in-Accepted.is in rw told (no_bytes _ (sym (fitting _ told c.requires)))
+returns-in-Accepted c = let told = c.in-Accepted.is in rw told (nil_from_length _ (sym (fitting _ told c.requires)))
 
 pub returns-in-Slots : goal.returns-in-Slots
 unfolding answer_bytes
