@@ -48,6 +48,18 @@ nothing_more s job at old (command code to) n = absurd n
 nothing_more s job at old end n = refl
 nothing_more s job at old (refusal number place) n = refl
 
+pub loop-command-init : goal.loop-command-init
+loop-command-init c =
+    let job = c.args.job.now in
+    let reply = c.args.reply.now in
+    let e = fitting_parsed job (length reply) c.requires in (
+      omega arith,
+      omega arith,
+      refl,
+      subst (λ (p : Parsed). Fitting p (length reply - 0)) e (subst (Fitting (file_of job)) (sym (sub-zero (length reply))) c.requires),
+      rw c.unset-state.ensures (ap (λ (p : Parsed). filled unset p reply) e),
+    )
+
 pub overflow_add-start : goal.overflow_add-start
 overflow_add-start c = let h = here c.in-Some.ensures.some c.loop-command.invariant.3 in omega (arith, h.wide, h.inside)
 
@@ -81,7 +93,8 @@ put-requires c =
     let h = here c.in-Some.ensures.some c.loop-command.invariant.3 in
     let code = code_byte c.in-Some.command.code in
     let s = c.loop-command.state in
-    let r = c.reply_width in (
+    let r = c.reply_width in
+    rw c.from.ensures (
       simp (length-take, length-drop) (omega (arith, h.room, r.ensures.0)),
       subst (λ (t : Result Reply Refusal). Fits t (answer_width code)) (sym c.turn-turn.ensures.replied) (reply_fits s code _),
     )
@@ -108,7 +121,7 @@ loop-command-preserved c =
     let o : take (to - (l.at + 1)) (drop (l.at + 1) job) ≡ found.operands = ap (λ (m : ℕ). take m (drop (l.at + 1) job)) w in
     let ys = c.put.new.out in
     let q : ys ≡ reply_of s code found.operands =
-    c.put.ensures ∙ ap (reply_bytes code) turn.ensures.replied ∙ ap (λ b. reply_bytes code (turn_of (row_of code) s b).reply) o in
+    c.put.ensures ∙ ap (λ n. reply_bytes n turn.result) c.from.ensures ∙ ap (reply_bytes code) turn.ensures.replied ∙ ap (λ b. reply_bytes code (turn_of (row_of code) s b).reply) o in
     let t : turn.new.state ≡ leaves s found = turn.ensures.left ∙ ap (λ b. (turn_of (row_of code) s b).state) o in
     let m : length ys ≡ r.result = ap length q ∙ length_reply s code found.operands ∙ sym r.ensures.0 in (
       h.inside,
