@@ -201,6 +201,8 @@ pub parted : (b m g : ℕ) → 2 ^ 52 ≤ m → m < 2 ^ 53 → 52 ≤ g → g < 
 parted b m g l h w u r =
     let d = doubled m g l h in
     record {
+      least = d.least;
+      most = omega (arith, d.most);
       high = omega arith;
       root = λ n near. let p = written m g l h w u n near in (p.0, p.1 ∙ sym r.root);
       digits = λ n f.

@@ -5,17 +5,18 @@
 mod normal;
 pub mod patterns;
 
-ghost use Rattle.std.specs.Prelude.{◌≡◌, ◌⊎◌, ◌≤◌};
+ghost use Rattle.std.specs.Prelude.{◌≡◌};
 ghost use Rattle.std.specs.Float.{binary64};
 ghost use Rattle.std.specs.Float.Ieee.{of_bits, to_bits};
 ghost use Rattle.root.specs.Root.{root_of};
 ghost use Rattle.root.specs.RootDigits.{digits_of};
+ghost use Rattle.root.specs.Parts.{IsSpecial};
 
 use whole_root::digits::Counted;
 
 // The square root of the value with the pattern b, which is not both finite and above zero.
 fn special_root(b: u64) -> f64
-    requires { (b ≡ 0) ⊎ (0x7ff0_0000_0000_0000 ≤ b) }
+    requires { IsSpecial b }
     ensures { result ≡ root_of (of_bits binary64 b) }
 {
     if b == patterns::SIGN {

@@ -1,10 +1,10 @@
 // The root of a positive number on its pattern: the significand is normalised, and its root is packed.
 
-ghost use Rattle.std.specs.Prelude.{◌≡◌, ◌⊎◌, ◌-◌, ◌*◌, ◌/◌, ◌%◌, ◌^◌, ◌≤◌, ◌<◌, IfSome, IsNone};
+ghost use Rattle.std.specs.Prelude.{◌≡◌, ◌-◌, ◌*◌, ◌/◌, ◌%◌, ◌^◌, ◌≤◌, ◌<◌, IfSome, IsNone};
 ghost use Rattle.std.specs.Float.{binary64};
 ghost use Rattle.std.specs.Float.Ieee.{of_bits};
 ghost use Rattle.root.specs.Root.{root_of};
-ghost use Rattle.root.specs.Parts.{Parted, Told};
+ghost use Rattle.root.specs.Parts.{IsSpecial, Parted, Told};
 
 use super::patterns::{EXPONENT, INFINITY};
 use whole_root::digits::{self, Counted};
@@ -35,7 +35,7 @@ fn even_parts(m: u64, g: u64, pattern: u64) -> Parts
 // The parts of the number with the pattern b, if it is finite and above zero.
 fn parts_of(b: u64) -> Option<Parts>
     ensures parts { IfSome result (λ p. Parted b p.radicand.m p.k) }
-    ensures none { IsNone result → (b ≡ 0) ⊎ (0x7ff0_0000_0000_0000 ≤ b) }
+    ensures none { IsNone result → IsSpecial b }
 {
     if b == 0 || b >= INFINITY {
         return None;
@@ -57,7 +57,7 @@ fn parts_of(b: u64) -> Option<Parts>
 // The pattern of the root of that number, with the digits told, by the digit loop.
 pub fn counted(b: u64) -> Option<Counted<u64>>
     ensures told { IfSome result (λ c. Told b c.root c.digits) }
-    ensures none { IsNone result → (b ≡ 0) ⊎ (0x7ff0_0000_0000_0000 ≤ b) }
+    ensures none { IsNone result → IsSpecial b }
 {
     let p = parts_of(b)?;
     let c = digits::counted_root(p.radicand);
