@@ -1,5 +1,6 @@
 -- The claims of specs/Laws.antt.
 use lib.Dec.{T, eqb, leb, leb→le, le→leb}
+use lib.Ieee.Fits.{and_i, and_l, and_r}
 use lib.ListN.{length, get_or}
 use Prim.Native.Nat.{ℕ, zero, suc, ◌+◌, ◌-◌, ◌≤◌, ◌<◌}
 use native.Mathlib.Omega.{arith}
@@ -14,7 +15,7 @@ use Rattle.command_patterns.specs.Listing.{line_feed, code_then, line, listing, 
 use Rattle.command_patterns.specs.Laws.{Stands, EachAtItsRank, NoOther, ListedInOrder, AsManyAsCounted, LineShowsPattern, RankGivesBack, RankOfEach, LowerComesFirst, ThreeBytesDecide, TenInputs, PatternExamples}
 use Rattle.command_patterns.proofs.Lines.{length_line}
 use Rattle.command_patterns.proofs.Numbers.{number_of_digits, digits_of_number, number_counted, positive, some_code, right_codes, few_codes}
-use Rattle.command_patterns.proofs.Orders.{and_parts, and_both, lower, Compared, same, first, last, compared}
+use Rattle.command_patterns.proofs.Orders.{lower, Compared, same, first, last, compared}
 
 -- what a pattern is, part by part
 record Parts (n : ℕ) (p : List ℕ) : Type 0 where
@@ -26,15 +27,16 @@ module _ (n : ℕ) (p : List ℕ) where
   parts : T (is_pattern n p) → Parts n p
   unfolding is_pattern
   parts t =
-      let u = and_parts (leb 1 (length p) && leb (length p) n) (all_codes p) t in
-      let v = and_parts (leb 1 (length p)) (leb (length p) n) u.0 in
-      record { some = leb→le 1 (length p) v.0; few = leb→le (length p) n v.1; codes = u.1 }
+      let a = leb 1 (length p) in
+      let b = leb (length p) n in
+      let u = and_l (a && b) (all_codes p) t in
+      record { some = leb→le 1 (length p) (and_l a b u); few = leb→le (length p) n (and_r a b u); codes = and_r (a && b) (all_codes p) t }
 
   whole : Parts n p → T (is_pattern n p)
   unfolding is_pattern
   whole t =
-      and_both (leb 1 (length p) && leb (length p) n) (all_codes p)
-      (and_both (leb 1 (length p)) (leb (length p) n) (le→leb 1 (length p) t.some) (le→leb (length p) n t.few))
+      and_i (leb 1 (length p) && leb (length p) n) (all_codes p)
+      (and_i (leb 1 (length p)) (leb (length p) n) (le→leb 1 (length p) t.some) (le→leb (length p) n t.few))
       t.codes
 
 -- ---- ranks

@@ -1,5 +1,6 @@
 -- The number that a list of codes stands for, its digits, and how many lists there are.
 use lib.Dec.{T}
+use lib.Ieee.Fits.{and_i, and_l, and_r}
 use lib.ListN.{length, length-append}
 use Prim.Native.Nat.{ℕ, zero, suc, ◌+◌, ◌-◌, ◌*◌, ◌/◌, ◌%◌, ◌≤◌, ◌<◌}
 use native.Mathlib.Nat.{div-add-mod, div-le_self}
@@ -8,7 +9,7 @@ use mathlib.Core.Path.{◌≡◌, refl, sym, ap, subst, ◌∙◌}
 use mathlib.Core.Bool.{true}
 use mathlib.Core.List.{List, [], ◌∷◌, ◌++◌}
 use Rattle.command_patterns.specs.Patterns.{is_code, all_codes, count, number_from, digits, pattern_at}
-use Rattle.command_patterns.proofs.Orders.{and_both, and_parts, range_code, first_code, one_writing, compared}
+use Rattle.command_patterns.proofs.Orders.{range_code, first_code, one_writing, compared}
 
 -- ---- the digits of a number
 number_of_more : (b : ℕ) (p : List ℕ) (c : ℕ) → number_from b (p ++ (c ∷ [])) ≡ 6 * number_from b p + c
@@ -24,9 +25,9 @@ number_of_digits (suc most) (suc k) h =
     ∙ omega (arith, number_of_digits most (k / 6) (omega arith), div-add-mod k 6)
 
 codes_of_more : (p : List ℕ) (c : ℕ) → T (all_codes p) → T (is_code c) → T (all_codes (p ++ (c ∷ [])))
-codes_of_more [] c s t = and_both (is_code c) true t tt
+codes_of_more [] c s t = and_i (is_code c) true t tt
 codes_of_more (x ∷ p) c s t =
-    let u = and_parts (is_code x) (all_codes p) s in and_both (is_code x) (all_codes (p ++ (c ∷ []))) u.0 (codes_of_more p c u.1 t)
+    and_i (is_code x) (all_codes (p ++ (c ∷ []))) (and_l (is_code x) (all_codes p) s) (codes_of_more p c (and_r (is_code x) (all_codes p) s) t)
 
 pub codes_of_digits : (most k : ℕ) → T (all_codes (digits most k))
 codes_of_digits zero k = tt

@@ -1,26 +1,19 @@
 -- Numbers in the digits 1 to 6 are in the order of the patterns: shorter ones first, equal lengths by code.
-use Rattle.std.proofs.Common.{T, leb, leb→le, le→leb, length, ℕ, ◌+◌, ◌*◌, ◌≤◌, ◌<◌, arith, ◌≡◌, refl, sym, ap, subst, inl, inr, Bool, true, false, ◌&&◌, List, [], ◌∷◌}
+use Rattle.std.proofs.Common.{T, leb, leb→le, le→leb, length, ℕ, ◌+◌, ◌*◌, ◌≤◌, ◌<◌, arith, ◌≡◌, refl, sym, ap, subst, inl, inr, List, [], ◌∷◌}
+use lib.Ieee.Fits.{and_i, and_l, and_r}
 use Rattle.std.proofs.lemmas.Bool.{cases_lt, cases_order}
 use Rattle.command_patterns.specs.Patterns.{is_code, all_codes, ByCode, ComesBefore, number_from}
 
-pub and_parts : (a b : Bool) → T (a && b) → T a × T b
-and_parts true b t = (tt, t)
-and_parts false b t = absurd t
-
-pub and_both : (a b : Bool) → T a → T b → T (a && b)
-and_both true b s t = t
-and_both false b s t = absurd s
-
 pub code_range : (c : ℕ) → T (is_code c) → (1 ≤ c) × (c ≤ 6)
-code_range c t = let h = and_parts (leb 1 c) (leb c 6) t in (leb→le 1 c h.0, leb→le c 6 h.1)
+code_range c t = (leb→le 1 c (and_l (leb 1 c) (leb c 6) t), leb→le c 6 (and_r (leb 1 c) (leb c 6) t))
 
 pub range_code : (c : ℕ) → 1 ≤ c → c ≤ 6 → T (is_code c)
-range_code c l h = and_both (leb 1 c) (leb c 6) (le→leb 1 c l) (le→leb c 6 h)
+range_code c l h = and_i (leb 1 c) (leb c 6) (le→leb 1 c l) (le→leb c 6 h)
 
 -- the range of the first of some codes, and those after it
 pub first_code : (c : ℕ) (p : List ℕ) → T (all_codes (c ∷ p)) → (1 ≤ c) × (c ≤ 6) × T (all_codes p)
 first_code c p t =
-    let u = and_parts (is_code c) (all_codes p) t in let h = code_range c u.0 in (h.0, h.1, u.1)
+    let h = code_range c (and_l (is_code c) (all_codes p) t) in (h.0, h.1, and_r (is_code c) (all_codes p) t)
 
 -- ---- the lower of two numbers
 -- lists of one length after digits that come to less

@@ -39,13 +39,13 @@ pub overflow_mul-f : goal.overflow_mul-f
 overflow_mul-f c = omega (arith, cut c.requires, c.requires)
 
 pub overflow_mul-result : goal.overflow_mul-result
-overflow_mul-result c = omega (arith, cut c.requires, (after c.requires).some, (after c.requires).one, (after c.requires).back, c.requires)
+overflow_mul-result c = omega (arith, cut c.requires, after c.requires, c.requires)
 
 pub overflow_add-result : goal.overflow_add-result
-overflow_add-result c = omega (arith, cut c.requires, (after c.requires).some, (after c.requires).one, (after c.requires).back, c.requires)
+overflow_add-result c = omega (arith, cut c.requires, after c.requires, c.requires)
 
 pub overflow_add-result-2 : goal.overflow_add-result-2
-overflow_add-result-2 c = omega (arith, cut c.requires, (after c.requires).some, (after c.requires).one, (after c.requires).back, c.requires)
+overflow_add-result-2 c = omega (arith, cut c.requires, after c.requires, c.requires)
 
 pub overflow_mul-result-3 : goal.overflow_mul-result-3
 overflow_mul-result-3 c = omega (arith, cut c.requires, c.requires)
