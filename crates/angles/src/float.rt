@@ -1,4 +1,5 @@
-// Helpers on f64 with the contracts of specs/Floats.antt. They stay beside std's methods: those ask for a number or leave the sign of a zero open.
+// Helpers on f64, over std's methods where there are such. They stay beside them for the names of specs/Floats.antt, by which everything above speaks of floats, and as
+// std's ask for a number (the sign) or leave the sign of a zero open (the smaller and the larger).
 
 ghost use Rattle.std.specs.Prelude.{◌≡◌};
 ghost use Rattle.angles.specs.Floats.{sign_of, finite_of, abs_of, signed_of, min_of, max_of};

@@ -23,7 +23,7 @@ fn put_slot(slot: Slot, out: &mut [u8])
 {
     let answer = slot.answer;
     let steps = slot.steps;
-    // A slot of an arc is never `Height`, which has the bytes of `numbers_of` all the same.
+    // Matched in this module, as document 01 binds. A slot of an arc is never `Height`, which has the bytes of `numbers_of` all the same.
     match answer {
         Answer::NoPiece => put_walked(out, 0, steps, 0.0, 0.0),
         Answer::NoWalk => put_walked(out, 1, steps, 0.0, 0.0),

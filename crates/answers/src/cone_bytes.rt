@@ -22,7 +22,7 @@ pub fn put_cone(slot: Slot, out: &mut [u8])
 {
     let answer = slot.answer;
     let steps = slot.steps;
-    // A cone is `Rejected` or `Height`; the other cases have the bytes of `numbers_of` all the same.
+    // Matched in this module, as document 01 binds. A cone is `Rejected` or `Height`; the other cases have the bytes of `numbers_of` all the same.
     match answer {
         Answer::NoPiece => put_height(out, 0, steps, 0.0),
         Answer::NoWalk => put_height(out, 1, steps, 0.0),

@@ -21,7 +21,7 @@ pub fn put_crossing(answer: Answer, out: &mut [u8])
     requires { length out.old ≡ 17 }
     ensures { out.new ≡ crossing_bytes answer }
 {
-    // A parallel is `Found`, `NotBetween` or `NoRoot`, and so are two arcs; the other cases have the bytes of `numbers_of` all the same.
+    // Matched in this module, as document 01 binds. A parallel is `Found`, `NotBetween` or `NoRoot`, and so are two arcs; the other cases have the bytes of `numbers_of` all the same.
     match answer {
         Answer::NoPiece => put_point(out, 0, 0.0, 0.0),
         Answer::NoWalk => put_point(out, 1, 0.0, 0.0),

@@ -16,6 +16,7 @@ fn count(n: u8) -> u64
     COUNTS[usize::from(n)]
 }
 
+// Lines differ in length, so the place of the next one is counted.
 fn list(n: u8, out: &mut [u8]) -> usize
     requires { (n ≤ 5) × (length (listing n) ≤ length out.old) }
     ensures { (result ≡ length (listing n)) × (out.new ≡ listing n ++ drop result out.old) }

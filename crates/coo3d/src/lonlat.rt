@@ -47,7 +47,7 @@ fn lat_of(v: Vect3) -> f64
     inverse::atan2(v.z, root::root(v.x * v.x + v.y * v.y))
 }
 
-// The source's lonlat_of, and its UnitVect3::lonlat.
+// The source's lonlat_of, and its UnitVect3::lonlat: that name, and no `From`.
 pub fn lonlat_of(v: Vect3) -> LonLat
     ensures { (result ≡ lon_lat_of v.x v.y v.z) × InTurn result.lon }
 {

@@ -23,6 +23,7 @@ impl Coo3D {
     // Document 01's T.
     pub const TRANSITION_Z: f64 = 2.0 / 3.0;
 
+    // The source's name, as `from_sph_coo` has: no `From`.
     #[tactic(auto, unfolding(crate::specs::Points::from_vec3))]
     pub fn from_vec3(v: Vect3) -> Coo3D
         ensures { result ≡ from_vec3 v.x v.y v.z }

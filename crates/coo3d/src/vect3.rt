@@ -63,7 +63,7 @@ impl Vect3 {
         self.divided_by(self.norm())
     }
 
-    // The source's UnitVect3::new.
+    // The source's UnitVect3::new, with its three parameters.
     #[tactic(auto, unfolding(crate::specs::Vectors::new_unit))]
     pub fn new_unit(x: f64, y: f64, z: f64) -> Vect3
         ensures { result ≡ new_unit x y z }

@@ -104,6 +104,10 @@ answer_bytes width (Ok (Slots s)) = slots_bytes s
 answer_bytes width (Ok (Cone s)) = cone_bytes s
 answer_bytes width (Ok (Crossing a)) = crossing_bytes a
 
+-- code, number and zeros, which `reply_bytes` has for a refusal
+unfoldable pub refused_bytes : ℕ → ℕ → List ℕ
+refused_bytes code number = code ∷ number ∷ replicate (answer_width code) 0
+
 -- a width that the answer fills
 abbrev pub Fits : Result Reply Refusal → ℕ → Type 0
 Fits r width = length (answer_bytes width r) ≡ width

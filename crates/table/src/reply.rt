@@ -2,7 +2,7 @@
 
 ghost use Rattle.std.specs.Prelude.{◌≡◌, ◌+◌, Ok, length};
 ghost use Rattle.table.specs.Table.{answer_width};
-ghost use Rattle.table.specs.Turns.{Fits, status_of, answer_bytes, reply_bytes};
+ghost use Rattle.table.specs.Turns.{Fits, answer_bytes, refused_bytes, reply_bytes};
 
 use super::refusal::Refusal;
 use answers::answer::{Answer, Slot, Slots};
@@ -15,16 +15,6 @@ pub enum Reply {
     Slots(Slots),
     Cone(Slot),
     Crossing(Answer),
-}
-
-#[tactic(auto, unfolding(crate::specs::Turns::status_of))]
-fn status(turn: Result<Reply, Refusal>) -> u8
-    ensures { result ≡ status_of turn }
-{
-    match turn {
-        Ok(_) => 0,
-        Err(refusal) => u8::from(refusal),
-    }
 }
 
 impl Reply {
@@ -41,16 +31,14 @@ impl Reply {
     }
 }
 
-// What stands after code and status, in the part that is left for it.
-#[tactic(auto, unfolding(crate::specs::Turns::answer_bytes))]
-fn put_rest(turn: Result<Reply, Refusal>, out: &mut [u8])
-    requires { Fits turn (length out.old) }
-    ensures { out.new ≡ answer_bytes (length out.old) turn }
+// The reply of a refused job, of any number.
+pub fn put_refused(number: u8, code: u8, out: &mut [u8])
+    requires { length out.old ≡ 2 + answer_width code }
+    ensures { out.new ≡ refused_bytes code number }
 {
-    match turn {
-        Ok(reply) => reply.put_answer(out),
-        Err(_) => output::fill(out, 0),
-    }
+    let end = out.len();
+    output::put(&mut out[0..2], [code, number]);
+    output::fill(&mut out[2..end], 0);
 }
 
 // The whole reply, in its own part of the reply buffer.
@@ -58,7 +46,12 @@ pub fn put(turn: Result<Reply, Refusal>, code: u8, out: &mut [u8])
     requires { (length out.old ≡ 2 + answer_width code) × Fits turn (answer_width code) }
     ensures { out.new ≡ reply_bytes code turn }
 {
-    let end = out.len();
-    output::put(&mut out[0..2], [code, status(turn)]);
-    put_rest(turn, &mut out[2..end]);
+    match turn {
+        Ok(reply) => {
+            let end = out.len();
+            output::put(&mut out[0..2], [code, 0]);
+            reply.put_answer(&mut out[2..end]);
+        }
+        Err(refusal) => put_refused(u8::from(refusal), code, out),
+    }
 }

@@ -39,3 +39,11 @@ upto_more {now} {old} {file} {at} ys k u l =
 pub upto_all : {now old file : List ℕ} {at : ℕ} → Upto now old file at → length old ≡ at → now ≡ file
 upto_all {now} {old} {file} {at} u l =
     let h : length old ≤ at = omega arith in rw (u.is, drop_of_length-le old h, append-nil) refl
+
+-- a buffer whose first two bytes are one part, and all that follow another
+pub two_and_rest : (old xs ys : List ℕ) (n : ℕ)
+    → length xs ≡ 2
+    → length ys ≡ n
+    → length old ≡ 2 + n
+    → put_mid 2 n (put_mid 0 2 old xs) ys ≡ xs ++ ys
+two_and_rest old xs ys n lx ly l = upto_all (upto_more ys n (upto_more xs 2 (upto_none old) lx) ly) l

@@ -1,4 +1,4 @@
--- The callees' contracts give the values in `quarter_piece`.
+-- The callees' contracts give the values in `quarter_piece`. A file, as an attribute takes no name of the logic's own, here `xor`.
 use mathlib.Core.Bool.{xor}
 use Rattle.caps.specs.SameQuarter.{quarter_piece}
 use Rattle.caps.proofs.same_quarter.piece.Goals as goal

@@ -1,4 +1,4 @@
--- The callees' contracts give the values in `cone_plan_in_pc`.
+-- The callees' contracts give the values in `cone_plan_in_pc`. A file, as an attribute takes no name of the logic's own, here `xor`.
 use mathlib.Core.Bool.{xor}
 use Rattle.special_points_finder.specs.Cones.{cone_plan_in_pc}
 use Rattle.special_points_finder.proofs.cone_in_pc.ConeInPc.plan.Goals as goal
