@@ -15,9 +15,9 @@ returns-in-Ok c =
     let width = answer_width c.args.code in
     let n = length c.args.out.now - 2 in
     let is : c.put_answer.new.out ≡ answer_bytes width c.args.turn =
-        c.put_answer.ensures ∙ ap (λ (k : ℕ). answer_bytes k (Ok c.in-Ok.reply)) (simp (length-take, length-drop) (omega (arith, c.requires.0))) ∙ ap (answer_bytes width) (sym c.in-Ok.is) in
+    c.put_answer.ensures ∙ ap (λ (k : ℕ). answer_bytes k (Ok c.in-Ok.reply)) (simp (length-take, length-drop) (omega (arith, c.requires.0))) ∙ ap (answer_bytes width) (sym c.in-Ok.is) in
     two_and_rest c.args.out.now c.put.new.out c.put_answer.new.out n (ap length c.put.ensures) (ap length is ∙ c.requires.1 ∙ omega (arith, c.requires.0)) (omega (arith, c.requires.0))
-      ∙ rw (c.put.ensures, is, c.in-Ok.is) refl
+    ∙ rw (c.put.ensures, is, c.in-Ok.is) refl
 
 pub returns-in-Err : goal.returns-in-Err
 unfolding reply_bytes refused_bytes status_of answer_bytes
