@@ -1,5 +1,5 @@
 -- A buffer that is filled part by part from its start: what is written so far, then what is left, is the whole; past it the buffer is as it was.
-use Rattle.std.proofs.Common.{length, take, drop, take-append-drop, drop_of_length-le, drop-drop, length-append, length-take, length-drop, arith, ℕ, ◌+◌, ◌≤◌, ◌≡◌, refl, sym, ap, ◌∙◌, List, [], ◌++◌, append-nil, append_assoc}
+use Rattle.std.proofs.Common.{length, take, drop, drop-drop, length-append, length-take, length-drop, arith, ℕ, ◌+◌, ◌≤◌, ◌≡◌, refl, sym, ap, ◌∙◌, List, ◌++◌, append_assoc}
 use Rattle.std.proofs.lemmas.Slice.{take-put_mid, drop-put_mid}
 use borrow.Rule.Slice.PartMut.{put_mid}
 
@@ -35,15 +35,3 @@ part_written {whole} {now} {old} {left} {ys} {at} part k to f e d t =
 -- its room
 pub part_fits : {whole now old : List ℕ} {at : ℕ} (part left : List ℕ) → Filling whole now old (part ++ left) at → at + length part ≤ length now
 part_fits part left f = omega (arith, length-append part left, f.long, f.room)
-
-module _ {whole now old : List ℕ} {at : ℕ} (f : Filling whole now old [] at) where
-  pub written : at ≡ length whole
-  written = rw f.so_far (simp (append-nil, length-take) (omega (arith, f.long, f.room)))
-
-  pub filled : now ≡ whole ++ drop at old
-  filled = rw (f.so_far, append-nil, ← f.kept) (sym (take-append-drop at now))
-
--- a buffer that the whole just fills
-pub whole_written : {whole now old : List ℕ} {at : ℕ} → Filling whole now old [] at → length old ≡ length whole → now ≡ whole
-whole_written {whole} {now} {old} {at} f e =
-    let h : length old ≤ at = omega (arith, written f) in filled f ∙ rw (drop_of_length-le old h, append-nil) refl

@@ -1,8 +1,8 @@
 -- The next code and a space are written where the line goes on; after the last code 00 and the line feed.
-use Rattle.std.proofs.Common.{T, length, get_or, drop, drop_of_length-le, length-take, length-drop, ℕ, ◌+◌, ◌*◌, ◌≤◌, ◌<◌, ◌≡◌, subst, arith, List, [], ◌++◌, append-nil}
+use Rattle.std.proofs.Common.{T, length, get_or, drop, length-take, length-drop, ℕ, ◌+◌, ◌<◌, subst, arith, List, ◌++◌}
 use Rattle.command_patterns.specs.Patterns.{all_codes}
-use Rattle.command_patterns.specs.Listing.{space, line_feed, code_then, line}
-use Rattle.command_patterns.proofs.Filling.{Filling, part_written, whole_written}
+use Rattle.command_patterns.specs.Listing.{space, code_then, line}
+use Rattle.command_patterns.proofs.Filling.{Filling, part_written}
 use Rattle.command_patterns.proofs.Lines.{length_code, length_line, code_at}
 use Rattle.command_patterns.proofs.Orders.{first_code}
 use Rattle.command_patterns.proofs.line.put_line.Goals as goal
@@ -11,10 +11,6 @@ module _ {whole out old : List ℕ} {at : ℕ} (codes : List ℕ) (i : ℕ) (f :
   -- a code and a space come next
   next : i < length codes → Filling whole out old (code_then (get_or codes i 0) space ++ line (drop (i + 1) codes)) at
   next h = subst (λ (cs : List ℕ). Filling whole out old (line cs) at) (code_at codes i h) f
-
-  -- or 00 and the line feed
-  last : length codes ≤ i → Filling whole out old (code_then 0 line_feed ++ []) at
-  last h = rw append-nil (subst (λ (cs : List ℕ). Filling whole out old (line cs) at) (drop_of_length-le codes h) f)
 
 codes_after : (codes : List ℕ) (i : ℕ) → i < length codes → T (all_codes (drop i codes)) → T (all_codes (drop (i + 1) codes))
 codes_after codes i h t =
@@ -38,15 +34,3 @@ loop-i-preserved c =
 
 pub put_code-requires-2 : goal.put_code-requires-2
 put_code-requires-2 c = (omega arith, simp (length-take, length-drop) (omega (arith, length_line c.args.codes.now)))
-
-pub returns : goal.returns
-returns c =
-    let l = c.loop-i in
-    let codes = c.args.codes.now in
-    let n = length codes in
-    let e : l.i ≡ n = omega arith in
-    let f = subst (λ (i : ℕ). Filling (line codes) l.out c.args.out.now (line (drop i codes)) (3 * i)) e l.invariant.filling in
-    let w = length_code 0 line_feed in
-    whole_written
-    (part_written (code_then 0 line_feed) _ (3 * n + 3) (last codes n f (omega arith)) c.put_code-2.ensures (omega (arith, w, length_line codes)) (omega (arith, w)))
-    c.requires.1

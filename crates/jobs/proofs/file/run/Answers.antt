@@ -60,12 +60,6 @@ loop-command-init c =
       rw c.unset-state.ensures (ap (λ (p : Parsed). filled unset p reply) e),
     )
 
-pub overflow_add-start : goal.overflow_add-start
-overflow_add-start c = let h = here c.in-Some.ensures.some c.loop-command.invariant.3 in omega (arith, h.wide, h.inside)
-
-pub overflow_add-to : goal.overflow_add-to
-overflow_add-to c = let h = here c.in-Some.ensures.some c.loop-command.invariant.3 in omega (arith, h.room)
-
 pub slice_bounds-turn-count : goal.slice_bounds-turn-count
 slice_bounds-turn-count c = let h = here c.in-Some.ensures.some c.loop-command.invariant.3 in omega (arith, h.wide)
 
@@ -78,12 +72,6 @@ slice_bounds-turn-end c = let h = here c.in-Some.ensures.some c.loop-command.inv
 pub turn-turn-requires : goal.turn-turn-requires
 turn-turn-requires c =
     let h = here c.in-Some.ensures.some c.loop-command.invariant.3 in simp (length-take, length-drop) (omega (arith, h.wide, h.inside))
-
-pub slice_bounds-put-count : goal.slice_bounds-put-count
-slice_bounds-put-count c = omega arith
-
-pub slice_bounds-put-start : goal.slice_bounds-put-start
-slice_bounds-put-start c = omega arith
 
 pub slice_bounds-put-end : goal.slice_bounds-put-end
 slice_bounds-put-end c = let h = here c.in-Some.ensures.some c.loop-command.invariant.3 in omega (arith, h.room)

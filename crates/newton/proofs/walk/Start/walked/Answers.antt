@@ -23,9 +23,6 @@ pub loop-w-init : goal.loop-w-init
 unfolding start_walk
 loop-w-init c = (omega (arith, ap (λ (w : Walk). w.steps) c.start-w.ensures), refl)
 
-pub step-w-requires : goal.step-w-requires
-step-w-requires c = omega (arith, more c)
-
 pub loop-w-smaller : goal.loop-w-smaller
 unfolding step_of
 loop-w-smaller c = omega (arith, more c.before, ap (λ (w : Walk). w.steps) c.step-w.ensures)
