@@ -3,7 +3,7 @@ use lib.ListN.{length}
 use mathlib.Core.Path.{sym, ap, ◌∙◌}
 use Rattle.std.proofs.lemmas.Result.{err_from_is_err_and}
 use Rattle.jobs.specs.Files.{file_of, ran, run_file}
-use Rattle.jobs.proofs.Passes.{refused_run, accepted_fits, accepted_run, short_run}
+use Rattle.jobs.proofs.Passes.{refused_run, accepted_run, short_run}
 use Rattle.jobs.proofs.file.run_file.Goals as goal
 
 pub returns-in_err-total : goal.returns-in_err-total
@@ -19,12 +19,6 @@ returns-then-reply-total c =
     let a = c.args in
     let t = c.in_ok-total in
     sym (short_run t.total (length a.job.now) a.reply.now a.job.now (sym t.ensures) c.if-reply-total.true)
-
-pub run-requires : goal.run-requires
-run-requires c =
-    let a = c.args in
-    let t = c.in_ok-total in
-    accepted_fits t.total 0 a.reply.now (file_of a.job.now) (sym t.ensures) c.if-reply-total.false
 
 pub returns : goal.returns
 unfolding run_file
