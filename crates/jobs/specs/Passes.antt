@@ -24,11 +24,13 @@ pub data Item : Type 0 where
   end : Item
   refusal : ℕ → ℕ → Item
 
+-- how the code tells it
 abbrev pub item_told : Result (Option Found) Refusal → Item
 item_told (Ok (Some c)) = command (code_byte c.code) c.end
 item_told (Ok None) = end
 item_told (Err r) = refusal (reason_number r.reason) r.place
 
+-- the end, or a refusal
 abbrev pub NoCommand : Item → Type 0
 NoCommand (command code to) = ⊥
 NoCommand end = Unit {0}
@@ -56,6 +58,7 @@ pub data Checked : Type 0 where
   accepted : ℕ → Checked
   not_accepted : ℕ → ℕ → Checked
 
+-- how the code tells it
 abbrev pub checked_told : Result ℕ Refusal → Checked
 checked_told (Ok total) = accepted total
 checked_told (Err r) = not_accepted (reason_number r.reason) r.place

@@ -7,17 +7,23 @@ use super::slope::ONE_OVER_TRANSITION_Z;
 use angles::{EIGHTH_PI, QUARTER_PI};
 
 // For the north or the south point of a cone.
+#[tactic(auto, unfolding(crate::specs::Regions::cte_eqr))]
 pub fn cte_eqr(north: bool) -> f64
     ensures { result ≡ cte_eqr north }
 {
-    mirrored(north, ONE_OVER_TRANSITION_Z * QUARTER_PI)
+    // Each sign written out, as the source groups them: no `mirrored`.
+    if north {
+        -ONE_OVER_TRANSITION_Z * QUARTER_PI
+    } else {
+        ONE_OVER_TRANSITION_Z * QUARTER_PI
+    }
 }
 
-#[tactic(auto, unfolding(crate::specs::Regions::cte_npc, crate::specs::Regions::mirrored_of))]
+#[tactic(auto, unfolding(crate::specs::Regions::cte_npc))]
 pub fn cte_npc(north: bool) -> f64
     ensures { result ≡ cte_npc north }
 {
-    mirrored(north, EIGHTH_PI)
+    if north { -EIGHTH_PI } else { EIGHTH_PI }
 }
 
 #[tactic(auto, unfolding(crate::specs::Regions::direction_of))]

@@ -1,5 +1,6 @@
 -- By the number that the input asks for, which its first three bytes decide.
 use Rattle.std.proofs.Common.{length, take, ℕ, ◌≡◌, sym, ap, ◌∙◌, arith, List}
+use Rattle.std.proofs.Math.Nat.{le_trans}
 use Rattle.std.specs.Prelude.{Option}
 use Rattle.command_patterns.specs.Listing.{number_in, printed_for, printed}
 use Rattle.command_patterns.proofs.Laws.{ten_inputs, three_bytes_decide}
@@ -14,7 +15,7 @@ pub list-requires : goal.list-requires
 list-requires c =
     let n = c.in-Some.n in
     let h = (ten_inputs c.args.front.now n).0 (sym c.number_in.ensures ∙ c.in-Some.is) in
-    (h.1, omega (arith, listing_fits n h.1, c.told-out))
+    (omega (arith, h.1), le_trans (listing_fits _ (omega (arith, h.1))) (omega (arith, c.told-out)))
 
 pub returns-in-Some-clause-length_printed : goal.returns-in-Some-clause-length_printed
 returns-in-Some-clause-length_printed c input r = c.list.ensures.0 ∙ ap length (asked input _ _ r (sym c.in-Some.is ∙ c.number_in.ensures))

@@ -7,4 +7,4 @@ pub invariant_of-result : goal.invariant_of-result
 invariant_of-result c =
     let r = c.requires.significand in
     let d = doubled c.args.m c.args.g r.0 r.1 in
-    record { digits = rw d.plain (d.least, omega (arith, d.most)) }
+    record { digits = (omega (arith, d.plain, d.least), omega (arith, d.plain, d.most)) }
