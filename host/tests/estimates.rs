@@ -1,53 +1,29 @@
-//! The estimates that the root's division starts from. No proof says that an estimate is good, and the root does not need it: where one isn't, the
-//! digit loop works out the same answer, only more slowly. So nothing else would notice a bad row of the table. This test says that the estimates
-//! are good, at the points that it tries.
+//! The estimates that a root starts from. No proof says that an estimate is good, and the root does not need it: where one isn't, the digit loop works
+//! out the same answer, only more slowly. So nothing else would notice a bad row of the table. The tests say that the estimates are good.
 
 use std::fs;
+use std::thread;
 
 const TABLE: &str = concat!(
     env!("CARGO_MANIFEST_DIR"),
     "/../crates/root_estimate/src/lib.rt"
 );
 const ROWS: usize = 64;
-/// So many points of each row are tried, evenly apart, and the last one.
-const STEPS: u64 = 1 << 14;
-/// There are so many d, and so many ways in which the fraction goes on after one.
+/// There are so many d in a row, and so many ways in which the fraction goes on after one.
 const ALL_D: u64 = 1 << 32;
 const ALL_ENDS: u64 = 1 << 15;
-
-/// An estimate, and the number whose root it is to be.
-struct Tried {
-    row: u64,
-    d: u64,
-    estimate: u64,
-    number: u64,
-}
-
-impl Tried {
-    /// What the estimate's square leaves of the number, if it isn't above it.
-    fn left(&self) -> Option<u64> {
-        self.number.checked_sub(self.estimate * self.estimate)
-    }
-
-    fn assert(&self, good: bool) {
-        assert!(
-            good,
-            "row {}, d {}: {} for the root of {}",
-            self.row, self.d, self.estimate, self.number
-        );
-    }
-}
+/// So many points of each row are tried, evenly apart, and the last one.
+const STEPS: u64 = 1 << 14;
+const THREADS: u64 = 4;
 
 /// The rows, each with the four numbers of its curve.
-fn table() -> Vec<[u64; 4]> {
+fn table() -> [[u64; 4]; ROWS] {
     let text = fs::read_to_string(TABLE).expect("the table can be read");
-    let lines = text.lines().map(str::trim);
-    let rows = lines.filter_map(|line| line.split_once(" => Curve("));
-    let (names, curves): (Vec<&str>, Vec<&str>) = rows.unzip();
-    let mut expected: Vec<String> = (0..ROWS).map(|row| row.to_string()).collect();
-    expected[ROWS - 1] = "_".to_string();
-    assert_eq!(names, expected);
-    curves.into_iter().map(curve).collect()
+    let rows = text
+        .lines()
+        .filter_map(|line| line.strip_prefix("    Curve("));
+    let rows: Vec<[u64; 4]> = rows.map(curve).collect();
+    rows.try_into().expect("the table has 64 rows")
 }
 
 fn curve(text: &str) -> [u64; 4] {
@@ -57,58 +33,99 @@ fn curve(text: &str) -> [u64; 4] {
     numbers.try_into().expect("a curve has four numbers")
 }
 
-/// As `estimate` in that file. It is proved of every row there that nothing here comes below 0.
-fn estimate([a, b, c, e]: [u64; 4], d: u64) -> u64 {
+/// As `reciprocal_root` in that file. It is proved of every row there that nothing here comes below 0.
+fn reciprocal([a, b, c, e]: [u64; 4], d: u64) -> u64 {
     let dd = d * d / ALL_D;
     let bent = (c - e * d / ALL_D) * dd / ALL_D;
-    a + b * d / ALL_D - bent
+    a - (b * d / ALL_D - bent)
 }
 
-/// The number with this d and this end of the fraction, as division.rt scales it.
+/// The number of 53 or 54 digits with this d and this end of the fraction.
 fn number(row: u64, d: u64, end: u64) -> u64 {
     let fraction = (row % 32) << 47 | d << 15 | end;
-    let from_1_to_2 = 1 << 52 | fraction;
     // The first half of the table is for the numbers from 2 to 4.
-    let scaled = if row < 32 {
-        2 * from_1_to_2
-    } else {
-        from_1_to_2
-    };
-    64 * scaled
+    let doubled = u64::from(row < 32);
+    (1 << 52 | fraction) << doubled
 }
 
-fn for_each_tried(look: impl Fn(Tried)) {
+/// What reciprocal.rt works out for a number, with the names that it has there.
+struct Tried {
+    r: u64,
+    s: u64,
+    d: u64,
+}
+
+impl Tried {
+    fn of(curve: [u64; 4], row: u64, d: u64, end: u64) -> Option<Tried> {
+        let m = number(row, d, end);
+        let r = reciprocal(curve, d);
+        let s = (m >> 22) * r >> 32;
+        let d = (m << 8).checked_sub(s * s)?;
+        Some(Tried { r, s, d })
+    }
+
+    /// What the quotient p leaves.
+    fn u(&self) -> Option<u64> {
+        let p = self.d / 16 * self.r >> 37;
+        (self.d << 21).checked_sub(p * self.s)
+    }
+
+    /// Both tests of reciprocal.rt.
+    fn is_taken(&self) -> bool {
+        self.d < 1 << 35 && self.u().is_some_and(|u| 2 * u <= 3 * self.s)
+    }
+
+    /// The same for this number and for each that differs from it in the end alone and has a lower one, hence the same r and s and a lower d. Where s * r
+    /// is at most 2 ^ 62, p * s is at most d * 2 ^ 21, and u is below what d * r / 2 ^ 41, with no digit cut off, leaves in place of p, by which it grows with
+    /// d, and s for the digits cut off from p, and s * r / 2 ^ 37 for those from d.
+    fn is_taken_with_all_before(&self) -> bool {
+        let product = self.s * self.r;
+        if self.d >= 1 << 35 || product > 1 << 62 {
+            return false;
+        }
+        let left = u128::from(self.d) * u128::from((1 << 62) - product);
+        let most = (left >> 41) as u64 + 1 + self.s + (product >> 37) + 1;
+        2 * most <= 3 * self.s
+    }
+}
+
+fn tried_points(row: u64) -> impl Iterator<Item = (u64, u64, u64)> {
+    let evenly = (0..STEPS).map(|step| step * (ALL_D / STEPS));
+    let points = evenly.chain([ALL_D - 1]);
+    points.flat_map(move |d| [0, ALL_ENDS - 1].map(|end| (row, d, end)))
+}
+
+#[test]
+fn every_estimate_is_taken() {
     for (row, curve) in (0..).zip(table()) {
-        let evenly = (0..STEPS).map(|step| step * (ALL_D / STEPS));
-        for d in evenly.chain([ALL_D - 1]) {
-            for end in [0, ALL_ENDS - 1] {
-                look(Tried {
-                    row,
-                    d,
-                    estimate: estimate(curve, d),
-                    number: number(row, d, end),
-                });
-            }
+        for (row, d, end) in tried_points(row) {
+            let tried = Tried::of(curve, row, d, end);
+            assert!(
+                tried.is_some_and(|tried| tried.is_taken()),
+                "row {row}, d {d}, end {end}"
+            );
         }
     }
 }
 
-/// What division.rt asks of an estimate.
+/// Of every number there is: so no root takes the digit loop. It takes minutes, and is run by name.
 #[test]
-fn the_division_takes_every_estimate() {
-    for_each_tried(|tried| {
-        let most = 12 * tried.estimate;
-        tried.assert(tried.left().is_some_and(|left| left <= most));
-    });
-}
-
-/// At these points an estimate is the whole root or up to 4 less, and leaves less than 9.5 times itself. Between them some leave up to 9.74 times.
-#[test]
-fn every_estimate_is_near() {
-    for_each_tried(|tried| {
-        let near = tried.estimate..=tried.estimate + 4;
-        tried.assert(near.contains(&tried.number.isqrt()));
-        let most = 19 * tried.estimate;
-        tried.assert(tried.left().is_some_and(|left| 2 * left < most));
+#[ignore]
+fn no_argument_is_left_to_the_loop() {
+    let table = table();
+    thread::scope(|scope| {
+        for part in 0..THREADS {
+            scope.spawn(move || {
+                for row in (0..ROWS as u64).filter(|row| row % THREADS == part) {
+                    let curve = table[row as usize];
+                    for d in 0..ALL_D {
+                        let first = Tried::of(curve, row, d, 0);
+                        let last = Tried::of(curve, row, d, ALL_ENDS - 1);
+                        let taken = last.is_some_and(|last| last.is_taken_with_all_before());
+                        assert!(first.is_some() && taken, "row {row}, d {d}");
+                    }
+                }
+            });
+        }
     });
 }

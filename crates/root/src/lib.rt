@@ -49,6 +49,25 @@ pub fn root_told(x: f64) -> Counted<f64>
     }
 }
 
+// The square root of x, by the digit loop.
+fn looped(x: f64) -> f64
+    ensures { result ≡ root_of x }
+{
+    root_told(x).root
+}
+
+// The square root on bit patterns, for every pattern: a NaN answer is 7FF8000000000000. Where the estimate is good, no float is made on the way, which
+// would take longer.
+pub fn root_of_bits(bits: u64) -> u64
+    ensures pattern { result ≡ to_bits binary64 (root_of (of_bits binary64 bits)) }
+    ensures value { of_bits binary64 result ≡ root_of (of_bits binary64 bits) }
+{
+    match normal::estimated(bits) {
+        Some(r) => r,
+        None => patterns::bits_of(looped(patterns::float_of(bits))),
+    }
+}
+
 // The square root of x.
 pub fn root(x: f64) -> f64
     ensures { result ≡ root_of x }
@@ -56,19 +75,5 @@ pub fn root(x: f64) -> f64
     if x.is_nan() {
         return x;
     }
-    match normal::divided(x.to_bits()) {
-        Some(r) => f64::from_bits(r),
-        None => root_told(x).root,
-    }
-}
-
-// The same on bit patterns, for every pattern: a NaN answer is 7FF8000000000000. Where the division answers, no float is made on the way, which would take
-// longer.
-pub fn root_of_bits(bits: u64) -> u64
-    ensures { result ≡ to_bits binary64 (root_of (of_bits binary64 bits)) }
-{
-    match normal::divided(bits) {
-        Some(r) => r,
-        None => patterns::bits_of(root_told(patterns::float_of(bits)).root),
-    }
+    patterns::float_of(root_of_bits(x.to_bits()))
 }

@@ -8,7 +8,7 @@ ghost use Rattle.root.specs.Parts.{IsSpecial, Parted, Told};
 
 use super::patterns::{EXPONENT, INFINITY};
 use whole_root::digits::{self, Counted};
-use whole_root::{Radicand, division};
+use whole_root::{Radicand, reciprocal};
 
 // The root of a number is that of `radicand`, packed with k in the exponent's field. The last digit of the exponent's field in `pattern`, and the fraction
 // there, choose an estimate.
@@ -37,21 +37,24 @@ fn parts_of(b: u64) -> Option<Parts>
     ensures parts { IfSome result (λ p. Parted b p.radicand.m p.k) }
     ensures none { IsNone result → IsSpecial b }
 {
-    if b == 0 || b >= INFINITY {
-        return None;
-    }
     let e = b / EXPONENT;
     let t = b % EXPONENT;
-    if e == 0 {
-        // A subnormal number has no leading digit put before t: t is moved up until its own stands there. In the pattern that digit is one more in the
-        // exponent's field, which is then even or odd as a normal number's is.
-        let s = (t.leading_zeros() as u64) - 11;
-        let m = t << s;
-        let g = 1074 - s;
-        Some(even_parts(m, g, g * EXPONENT + m))
-    } else {
-        Some(even_parts(t + EXPONENT, e + 1073, b))
+    // An infinity, a NaN, or a set sign bit.
+    if e >= 2047 {
+        return None;
     }
+    if e > 0 {
+        return Some(even_parts(t + EXPONENT, e + 1073, b));
+    }
+    if t == 0 {
+        return None;
+    }
+    // A subnormal number has no leading digit put before t: t is moved up until its own stands there. In the pattern that digit is one more in the
+    // exponent's field, which is then even or odd as a normal number's is.
+    let s = (t.leading_zeros() as u64) - 11;
+    let m = t << s;
+    let g = 1074 - s;
+    Some(even_parts(m, g, g * EXPONENT + m))
 }
 
 // The pattern of the root of that number, with the digits told, by the digit loop.
@@ -67,12 +70,12 @@ pub fn counted(b: u64) -> Option<Counted<u64>>
     })
 }
 
-// The pattern of the root of the number with the pattern b, by a division, if b is finite and above zero and the estimate is good.
-pub fn divided(b: u64) -> Option<u64>
+// The pattern of the root of the number with the pattern b, from an estimate, if b is finite and above zero and the estimate is good.
+pub fn estimated(b: u64) -> Option<u64>
     ensures value { IfSome result (λ r. of_bits binary64 r ≡ root_of (of_bits binary64 b)) }
     ensures finite { IfSome result (λ r. r < 0x7ff0_0000_0000_0000) }
 {
     let p = parts_of(b)?;
-    let q = division::nearest_root(p.radicand, p.pattern)?;
+    let q = reciprocal::nearest_root(p.radicand, p.pattern)?;
     Some(p.k * EXPONENT + q)
 }

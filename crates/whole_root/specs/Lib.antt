@@ -1,3 +1,3 @@
 pub mod Roots
 pub mod Digits
-pub mod Division
+pub mod Reciprocal

@@ -1,10 +1,10 @@
-// The root of a whole number of 105 or 106 binary digits, rounded to a whole number of 53: by a digit loop, which counts its digits, and by one
-// division.
+// The root of a whole number of 105 or 106 binary digits, rounded to a whole number of 53: by a digit loop, which counts its digits, and by way of the
+// reciprocal of the root.
 
 #![tactic(auto)]
 
 pub mod digits;
-pub mod division;
+pub mod reciprocal;
 
 ghost use Rattle.std.specs.Prelude.{◌^◌, ◌≤◌, ◌<◌};
 

@@ -1,10 +1,8 @@
 -- A NaN is its own root; any other x is the value of its pattern.
 use mathlib.Core.Path.{sym, ap, ◌∙◌, subst}
-use native.Mathlib.Omega.{arith}
 use lib.Dec.{T}
 use lib.Ieee.{binary64}
 use lib.Ieee.Bits.{of_bits-to_bits}
-use Rattle.std.proofs.lemmas.Float.{not_nan_f64_bits}
 use Rattle.root.specs.Root.{root_of}
 use Rattle.root.proofs.Bits.{nan_root}
 use Rattle.root.proofs.root.Goals as goal
@@ -12,9 +10,5 @@ use Rattle.root.proofs.root.Goals as goal
 pub returns-then-is_nan : goal.returns-then-is_nan
 returns-then-is_nan c = nan_root _ (sym c.if-is_nan.ensures.value)
 
-pub float_from_bits-result : goal.float_from_bits-result
-float_from_bits-result c = not_nan_f64_bits _ (omega (arith, c.in-Some.ensures.finite))
-
-pub returns-in-Some : goal.returns-in-Some
-returns-in-Some c =
-    c.in-Some.ensures.value ∙ ap root_of (of_bits-to_bits binary64 c.args.x (subst T (sym c.well_formed.0.1) tt))
+pub returns : goal.returns
+returns c = c.float_of.ensures ∙ c.root_of_bits.ensures.value ∙ ap root_of (of_bits-to_bits binary64 c.args.x (subst T (sym c.well_formed.0.1) tt))

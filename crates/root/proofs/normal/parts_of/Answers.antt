@@ -9,10 +9,7 @@ use lib.Count.{count_leading_zeros}
 use Rattle.root.specs.Parts.{Reads, Parted}
 use Rattle.root.proofs.Bits.{Moved, moved, read_normal, read_subnormal, parted}
 use Rattle.root.proofs.normal.parts_of.Goals as goal
-use Rattle.root.proofs.normal.parts_of.Goals.{Then-e-eq0}
-
-at : (c : Then-e-eq0) → Moved (c.args.b % 2 ^ 52) (count_leading_zeros 64 (c.args.b % 2 ^ 52))
-at c = moved (c.args.b % 2 ^ 52) (omega arith) (omega arith)
+use Rattle.root.proofs.normal.parts_of.Goals.{Else-t-eq0}
 
 -- nothing is lost at the top
 shifted : (t z : ℕ) → Moved t z → t * 2 ^ (z - 11) % 2 ^ 64 ≡ t * 2 ^ (z - 11)
@@ -25,17 +22,20 @@ kept e l h = omega arith
 same : {b m k x y : ℕ} → x ≡ m → y ≡ k → Parted b m k → Parted b x y
 same {b} {m} {k} {x} {y} e f p = subst (λ (z : ℕ). Parted b z y) (sym e) (subst (Parted b m) (sym f) p)
 
+at : (c : Else-t-eq0) → Moved (c.args.b % 2 ^ 52) (count_leading_zeros 64 (c.args.b % 2 ^ 52))
+at c = moved (c.args.b % 2 ^ 52) (omega arith) (omega arith)
+
 pub overflow_sub-s : goal.overflow_sub-s
 overflow_sub-s c = omega (arith, at c)
 
 pub overflow_add-g : goal.overflow_add-g
 overflow_add-g c = omega (arith, at c, shifted _ _ (at c))
 
-pub even_parts-requires : goal.even_parts-requires
-even_parts-requires c = let m = at c in record { significand = kept (shifted _ _ m) m.least m.most; power = omega arith }
+pub even_parts-requires-2-clause-significand : goal.even_parts-requires-2-clause-significand
+even_parts-requires-2-clause-significand c = let m = at c in kept (shifted _ _ m) m.least m.most
 
-pub returns-then-e-eq0-clause-parts : goal.returns-then-e-eq0-clause-parts
-returns-then-e-eq0-clause-parts c =
+pub returns-clause-parts : goal.returns-clause-parts
+returns-clause-parts c =
     let b = c.args.b in
     let t = b % 2 ^ 52 in
     let m = at c.before in
@@ -43,14 +43,14 @@ returns-then-e-eq0-clause-parts c =
     let e : t ≡ b = omega arith in
     let r = subst (λ (x : ℕ). Reads (of_bits binary64 x) (t * 2 ^ s * 2 ^ (1074 - s))) e (read_subnormal t s (omega arith) (omega arith) (omega arith)) in
     same
-    (c.even_parts.ensures.0 ∙ ap (λ (x : ℕ). x * 2 ^ ((1074 - s) % 2)) (shifted t (count_leading_zeros 64 t) m))
-    c.even_parts.ensures.1
+    (c.even_parts-2.ensures.0 ∙ ap (λ (x : ℕ). x * 2 ^ ((1074 - s) % 2)) (shifted t (count_leading_zeros 64 t) m))
+    c.even_parts-2.ensures.1
     (parted b (t * 2 ^ s) (1074 - s) m.least m.most (omega arith) (omega arith) r)
 
-pub returns-else-e-eq0-clause-parts : goal.returns-else-e-eq0-clause-parts
-returns-else-e-eq0-clause-parts c =
+pub returns-then-e-gt0-clause-parts : goal.returns-then-e-gt0-clause-parts
+returns-then-e-gt0-clause-parts c =
     let b = c.args.b in
     same
-    c.even_parts-else-e-eq0.ensures.0
-    c.even_parts-else-e-eq0.ensures.1
-    (parted b _ _ (omega arith) (omega arith) (omega arith) (omega arith) (read_normal b c.if-e-eq0.false (omega arith)))
+    c.even_parts.ensures.0
+    c.even_parts.ensures.1
+    (parted b _ _ (omega arith) (omega arith) (omega arith) (omega arith) (read_normal b (omega arith) (omega arith)))
