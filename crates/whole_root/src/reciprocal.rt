@@ -1,4 +1,5 @@
-// The whole number nearest to a root, with no division: the root's reciprocal, to some thirty digits, gives thirty of the root, and then the rest.
+// The whole number nearest to a root, with no division but by powers of two: the root's reciprocal, to some thirty digits, gives thirty of the root,
+// and then the rest.
 
 ghost use Rattle.std.specs.Prelude.{◌+◌, ◌*◌, ◌^◌, ◌<◌, IfSome};
 ghost use Rattle.whole_root.specs.Roots.{IsNearest};
@@ -33,7 +34,7 @@ pub fn nearest_root(of: Radicand, pattern: u64) -> Option<u64>
 {
     let r = root_estimate::reciprocal_root(pattern);
     let s = of.m / 0x40_0000 * r / 0x1_0000_0000;
-    // Comparisons, as the two of `last_turn`: with `checked_sub` a root takes a tenth longer.
+    // Comparisons, here and in `last_turn`: with `checked_sub` a root takes a twelfth longer.
     let x = of.m * 256;
     if x < s * s {
         return None;
