@@ -49,8 +49,8 @@ pub fn root_told(x: f64) -> Counted<f64>
     }
 }
 
-// The square root of x, by the digit loop.
-fn looped(x: f64) -> f64
+// The square root of x where no estimate gives it. It stands by itself so that the proof has its answer as a float.
+fn without_estimate(x: f64) -> f64
     ensures { result ≡ root_of x }
 {
     root_told(x).root
@@ -64,7 +64,7 @@ pub fn root_of_bits(bits: u64) -> u64
 {
     match normal::estimated(bits) {
         Some(r) => r,
-        None => patterns::bits_of(looped(patterns::float_of(bits))),
+        None => patterns::bits_of(without_estimate(patterns::float_of(bits))),
     }
 }
 

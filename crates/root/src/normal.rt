@@ -6,7 +6,7 @@ ghost use Rattle.std.specs.Float.Ieee.{of_bits};
 ghost use Rattle.root.specs.Root.{root_of};
 ghost use Rattle.root.specs.Parts.{IsSpecial, Parted, Told};
 
-use super::patterns::{EXPONENT, INFINITY};
+use super::patterns::EXPONENT;
 use whole_root::digits::{self, Counted};
 use whole_root::{Radicand, reciprocal};
 

@@ -1,4 +1,4 @@
-// The reciprocal of a root to some thirty digits, by one of 64 curves of third degree.
+// The reciprocal of a root to some 28 digits, by one of 64 curves of third degree.
 
 #![tactic(auto)]
 
@@ -85,8 +85,8 @@ fn curve_of(pattern: u64) -> Curve
     CURVES[(pattern / 0x8000_0000_0000 % 64) as usize]
 }
 
-// Near to 2 ^ 32 / √y. Of a pattern, the exponent's last digit and the first five of the fraction choose the curve, and the next 32 are d. That the estimate
-// is good is not promised: whole_root looks at each.
+// Near to 2 ^ 32 / √y, for the y from 1 to 4 that the number of the pattern is but for an even power of two. The 32 digits after those that choose the curve
+// are d. That the estimate is good is not promised: whole_root looks at each.
 pub fn reciprocal_root(pattern: u64) -> u64
     ensures { result < 2 ^ 32 }
 {

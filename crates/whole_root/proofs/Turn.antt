@@ -11,6 +11,7 @@ use Rattle.std.proofs.lemmas.Nat.{mul-lt}
 use Rattle.whole_root.specs.Roots.{IsNearest}
 use Rattle.whole_root.specs.Reciprocal.{Begun}
 
+-- p, near to d * 2 ^ 21 / s, and what it leaves
 pub record Cut (s d p u : ℕ) : Type 0 where
   pub whole : d * 2 ^ 21 ≡ p * s + u
   pub rest : 2 * u ≤ 3 * s

@@ -1,5 +1,5 @@
-// The whole number nearest to a root, with no division but by powers of two: the root's reciprocal, to some thirty digits, gives thirty of the root,
-// and then the rest.
+// The whole number nearest to a root, with no division but by powers of two: the root's reciprocal gives the first 31 digits of the root, or a little
+// less, and then the other 22.
 
 ghost use Rattle.std.specs.Prelude.{◌+◌, ◌*◌, ◌^◌, ◌<◌, IfSome};
 ghost use Rattle.whole_root.specs.Roots.{IsNearest};
@@ -16,6 +16,7 @@ fn last_turn(s: u64, d: u64, r: u64) -> Option<u64>
     ensures { IfSome result (IsNearest ((s * s + d) * 2 ^ 44)) }
 {
     let n = d * 0x20_0000;
+    // Four digits of d are cut off, so that the product fits a word.
     let p = d / 16 * r / 0x20_0000_0000;
     if n < p * s {
         return None;

@@ -1,4 +1,4 @@
--- A pattern that the estimate gives is that of its value.
+-- A pattern that the estimate gives is that of its value; where there is none, it is that of a float.
 use mathlib.Core.Path.{sym, ap, ◌∙◌, subst}
 use native.Mathlib.Omega.{arith}
 use lib.Dec.{T}
@@ -15,4 +15,4 @@ returns-in-Some-clause-pattern c =
 
 pub returns-in-None-clause-value : goal.returns-in-None-clause-value
 returns-in-None-clause-value c =
-    ap (of_bits binary64) c.bits_of.ensures ∙ of_bits-to_bits binary64 c.looped.result (subst T (sym c.looped.type_inv) tt) ∙ c.looped.ensures ∙ ap root_of c.float_of.ensures
+    ap (of_bits binary64) c.bits_of.ensures ∙ of_bits-to_bits binary64 c.without_estimate.result (subst T (sym c.without_estimate.type_inv) tt) ∙ c.without_estimate.ensures ∙ ap root_of c.float_of.ensures

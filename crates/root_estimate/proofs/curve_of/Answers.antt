@@ -1,3 +1,4 @@
+-- A row of the table, by proofs/Table.antt.
 use Prim.Native.Nat.{◌/◌, ◌%◌, ◌^◌}
 use Rattle.root_estimate.proofs.Table.{row_curved}
 use Rattle.root_estimate.proofs.curve_of.Goals as goal
