@@ -1,5 +1,6 @@
 //! The estimates that a root starts from. No proof says that an estimate is good, and the root does not need it: where one isn't, the digit loop works
-//! out the same answer, only more slowly. So nothing else would notice a bad row of the table. The tests say that the estimates are good.
+//! out the same answer, only more slowly. So nothing else would notice a bad row of the table. The tests say that the estimates are good, and have the
+//! few operations of `reciprocal_root` and reciprocal.rt once more for it: a slip there shows in the time alone.
 
 use std::fs;
 use std::thread;
@@ -56,28 +57,27 @@ struct Tried {
 }
 
 impl Tried {
-    fn of(curve: [u64; 4], row: u64, d: u64, end: u64) -> Option<Tried> {
-        let m = number(row, d, end);
-        let r = reciprocal(curve, d);
-        let s = (m >> 22) * r >> 32;
+    /// None where the square is above the number, which is the first test of reciprocal.rt.
+    fn of(m: u64, r: u64) -> Option<Tried> {
+        let s = ((m >> 22) * r) >> 32;
         let d = (m << 8).checked_sub(s * s)?;
         Some(Tried { r, s, d })
     }
 
-    /// What the quotient p leaves.
+    /// What the quotient leaves.
     fn u(&self) -> Option<u64> {
-        let p = self.d / 16 * self.r >> 37;
+        let p = (self.d / 16 * self.r) >> 37;
         (self.d << 21).checked_sub(p * self.s)
     }
 
-    /// Both tests of reciprocal.rt.
+    /// The other three tests of reciprocal.rt.
     fn is_taken(&self) -> bool {
         self.d < 1 << 35 && self.u().is_some_and(|u| 2 * u <= 3 * self.s)
     }
 
     /// The same for this number and for each that differs from it in the end alone and has a lower one, hence the same r and s and a lower d. Where s * r
-    /// is at most 2 ^ 62, p * s is at most d * 2 ^ 21, and u is below what d * r / 2 ^ 41, with no digit cut off, leaves in place of p, by which it grows with
-    /// d, and s for the digits cut off from p, and s * r / 2 ^ 37 for those from d.
+    /// is at most 2 ^ 62, p * s is at most d * 2 ^ 21. Then u is below the sum of three: what d * r / 2 ^ 41 would leave in place of p, which grows with d;
+    /// s, for what is cut off from p; and s * r / 2 ^ 37, for what is cut off from d.
     fn is_taken_with_all_before(&self) -> bool {
         let product = self.s * self.r;
         if self.d >= 1 << 35 || product > 1 << 62 {
@@ -89,38 +89,33 @@ impl Tried {
     }
 }
 
-fn tried_points(row: u64) -> impl Iterator<Item = (u64, u64, u64)> {
-    let evenly = (0..STEPS).map(|step| step * (ALL_D / STEPS));
-    let points = evenly.chain([ALL_D - 1]);
-    points.flat_map(move |d| [0, ALL_ENDS - 1].map(|end| (row, d, end)))
-}
-
 #[test]
 fn every_estimate_is_taken() {
     for (row, curve) in (0..).zip(table()) {
-        for (row, d, end) in tried_points(row) {
-            let tried = Tried::of(curve, row, d, end);
-            assert!(
-                tried.is_some_and(|tried| tried.is_taken()),
-                "row {row}, d {d}, end {end}"
-            );
+        let evenly = (0..STEPS).map(|step| step * (ALL_D / STEPS));
+        for d in evenly.chain([ALL_D - 1]) {
+            for end in [0, ALL_ENDS - 1] {
+                let tried = Tried::of(number(row, d, end), reciprocal(curve, d));
+                let taken = tried.is_some_and(|tried| tried.is_taken());
+                assert!(taken, "row {row}, d {d}, end {end}");
+            }
         }
     }
 }
 
-/// Of every number there is: so no root takes the digit loop. It takes minutes, and is run by name.
+/// Of every finite number above zero: so no root takes the digit loop.
 #[test]
-#[ignore]
-fn no_argument_is_left_to_the_loop() {
+#[ignore = "takes minutes"]
+fn no_number_is_left_to_the_loop() {
     let table = table();
     thread::scope(|scope| {
         for part in 0..THREADS {
             scope.spawn(move || {
                 for row in (0..ROWS as u64).filter(|row| row % THREADS == part) {
-                    let curve = table[row as usize];
                     for d in 0..ALL_D {
-                        let first = Tried::of(curve, row, d, 0);
-                        let last = Tried::of(curve, row, d, ALL_ENDS - 1);
+                        let r = reciprocal(table[row as usize], d);
+                        let first = Tried::of(number(row, d, 0), r);
+                        let last = Tried::of(number(row, d, ALL_ENDS - 1), r);
                         let taken = last.is_some_and(|last| last.is_taken_with_all_before());
                         assert!(first.is_some() && taken, "row {row}, d {d}");
                     }
