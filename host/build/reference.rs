@@ -61,6 +61,13 @@ const FINDER_EDITS: [Edit; 2] = [
     ),
 ];
 
+/// Document 02, ask 5: "The flat rule now applies below π / 648000 radians, one division".
+const SHORT_ARC_EDITS: [Edit; 1] = [edit(
+    1,
+    "ang_dist < (1_f64 / 3600.0).to_degrees()",
+    "ang_dist < PI / 648000.0",
+)];
+
 // From here on: calls of src/reference.rs. They change nothing of what is worked out.
 
 const COO3D_CALLS: [Edit; 5] = [
@@ -84,7 +91,7 @@ const COO3D_CALLS: [Edit; 5] = [
     ),
 ];
 
-const FINDER_CALLS: [Edit; 14] = [
+const FINDER_CALLS: [Edit; 16] = [
     edit(1, "use super::{Customf64,", "use super::{Customf64, Noted,"),
     edit(8, ".sqrt()", ".noted_root()"),
     edit(1, "crate::angles::atan2(", "super::noted::atan2("),
@@ -130,6 +137,12 @@ const FINDER_CALLS: [Edit; 14] = [
         "super::second_comes_first(); super::piece_begins(super::FIRST);",
     ),
     edit(2, "Some(v.lonlat())", "super::crossed(Some(v.lonlat()))"),
+    edit(1, "ang_dist < PI", "super::measured(ang_dist) < PI"),
+    edit(
+        2,
+        "TRANSITION_Z)\n}",
+        "TRANSITION_Z).inspect(|_| super::count_length(super::SPLITS))\n}",
+    ),
 ];
 
 /// None of these may be left: an angle function of the library's, or an operation that rounds once for two.
@@ -173,7 +186,11 @@ pub fn prepare(repository: &Path) {
 fn write(folder: &Path, name: &str, [in_coo3d, in_finder]: [&[Edit]; 2]) -> Result<(), String> {
     let lib = read(folder, LIB)?;
     let coo3d = with_edits(folder, COO3D, &[&COO3D_EDITS, &LONGITUDE_EDITS, in_coo3d])?;
-    let finder = with_edits(folder, FINDER, &[&FINDER_EDITS, in_finder])?;
+    let finder = with_edits(
+        folder,
+        FINDER,
+        &[&FINDER_EDITS, &SHORT_ARC_EDITS, in_finder],
+    )?;
     let mut text = String::new();
     for start in LIB_ITEMS {
         text += &item(&lib, start)?;

@@ -10,6 +10,7 @@ use crate::crossings::Crossings;
 use crate::finder;
 use crate::inputs::{two_arcs, BESIDE_LONGITUDE_0, TWO_ARCS};
 use crate::job_files::{self, Maker};
+use crate::lengths::Lengths;
 use crate::outcomes::{print_row, Outcomes};
 use crate::reference::{self, Panic};
 use crate::rules::{self, Answer, Content, Reply};
@@ -80,6 +81,7 @@ struct Comparison {
     total: Tally,
     outcomes: Outcomes,
     turns: Turns,
+    lengths: Lengths,
     geometry: Geometry,
     /// Slots that the reference did not come to.
     unknown_slots: u64,
@@ -102,6 +104,7 @@ impl Comparison {
             total: Tally::default(),
             outcomes: Outcomes::default(),
             turns: Turns::default(),
+            lengths: Lengths::default(),
             geometry: Geometry::default(),
             unknown_slots: 0,
             files: 0,
@@ -161,6 +164,7 @@ impl Comparison {
             }
             self.unknown_slots += reply.unknown_slots() as u64;
             self.turns.count(reply);
+            self.lengths.count(reply);
             if let Some(difference) = difference {
                 differs = true;
                 self.show(job, buffer, &format!("{}: {difference}", reply.command));
@@ -259,6 +263,7 @@ impl Comparison {
         self.total.print("all");
         self.outcomes.print();
         self.turns.print();
+        self.lengths.print();
         self.total.crossings.print();
         self.geometry.print();
         print_row(
@@ -297,7 +302,12 @@ impl Comparison {
             self.classes_without_events(),
             self.geometry.missing(),
         ];
-        let others = [self.outcomes.missing(), turns, self.depends.missing()];
+        let others = [
+            self.outcomes.missing(),
+            turns,
+            self.lengths.missing(),
+            self.depends.missing(),
+        ];
         [others.concat(), crossings.concat()].concat()
     }
 

@@ -4,6 +4,7 @@ pub mod cones;
 pub mod ends;
 mod operands;
 pub mod parallels;
+mod short;
 pub mod two_arcs;
 
 pub use crate::reference::TRANSITION_Z;
@@ -119,6 +120,15 @@ pub fn beside_longitude_0(random: &mut Random) -> Command {
         arc(random, ends::beside_longitude_0)
     } else {
         parallels::beside_longitude_0(random)
+    }
+}
+
+/// An arc or a parallel about one arcsecond long, or one that is no longer flat.
+pub fn short_arc(random: &mut Random) -> Command {
+    if random.flip() {
+        arc(random, short::any)
+    } else {
+        parallels::short_arc(random)
     }
 }
 

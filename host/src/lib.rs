@@ -18,6 +18,8 @@ pub mod inputs;
 #[cfg(reference)]
 pub mod job_files;
 #[cfg(reference)]
+pub mod lengths;
+#[cfg(reference)]
 pub mod outcomes;
 pub mod patterns;
 #[cfg(reference)]

@@ -13,6 +13,7 @@ pub use sph_geom::coo3d::*;
 
 use crate::pattern;
 use std::cell::{Cell, RefCell};
+use std::f64::consts::PI;
 use std::panic;
 
 /// The first slot of each region.
@@ -31,6 +32,33 @@ const LONLAT: usize = 1;
 pub const SIZES_OF_Y: [f64; 2] = [f64::MIN_POSITIVE, 1e-30];
 /// How often each function has come to 2π, by the size of y.
 pub type WholeTurns = [[u32; SIZES_OF_Y.len() + 1]; LONGITUDES.len()];
+
+/// Document 02, ask 5: "below π / 648000 radians, one division, which is one arcsecond".
+pub const SHORT_LIMIT: f64 = PI / 648000.0;
+/// Where the source has the flat rule end.
+pub const OLD_SHORT_LIMIT: f64 = (1.0 / 3600.0) * (180.0 / PI);
+/// The lengths of arcs are told apart at these.
+pub const LENGTHS: [f64; 6] = [
+    SHORT_LIMIT * (1.0 - 1e-9),
+    SHORT_LIMIT,
+    f64::from_bits(SHORT_LIMIT.to_bits() + 1),
+    SHORT_LIMIT * (1.0 + 1e-9),
+    0.25 * PI / 180.0,
+    OLD_SHORT_LIMIT,
+];
+/// What is crossed by a rule that the length has decided.
+pub const CROSSED: [&str; 4] = [
+    "splits",
+    "pieces in the equator",
+    "pieces in a cap",
+    "code 06's arcs",
+];
+const SPLITS: usize = 0;
+const EQUATOR_PIECES: usize = 1;
+const CAP_PIECES: usize = 2;
+pub const PARALLELS: usize = 3;
+/// How often each was of each length.
+pub type ByLength = [[u32; LENGTHS.len() + 1]; CROSSED.len()];
 
 /// How far the reference has come with a slot, as document 01's kinds: 0 no piece, 1 a piece, 2 a walk, 3 a point, 4 no crossing. A crossing
 /// at which it panics leaves a 2.
@@ -51,8 +79,11 @@ pub struct Work {
     /// The slot that was worked on last.
     pub at: usize,
     pub whole_turns: WholeTurns,
+    pub lengths: ByLength,
     /// The first slot of the region.
     region: usize,
+    /// The length that has decided on the rule of a crossing which is not counted yet.
+    length: Option<f64>,
 }
 
 const NO_WORK: Work = Work {
@@ -64,7 +95,9 @@ const NO_WORK: Work = Work {
     order: [0, 1, 2, 3, 4],
     at: 0,
     whole_turns: [[0; SIZES_OF_Y.len() + 1]; LONGITUDES.len()],
+    lengths: [[0; LENGTHS.len() + 1]; CROSSED.len()],
     region: 0,
+    length: None,
 };
 
 thread_local! {
@@ -123,7 +156,29 @@ fn crossed(crossing: Option<LonLat>) -> Option<LonLat> {
         }
         None => slot.kind = 4,
     });
+    let in_equator = WORK.with_borrow(|work| work.region == EQUATOR);
+    count_length(if in_equator {
+        EQUATOR_PIECES
+    } else {
+        CAP_PIECES
+    });
     crossing
+}
+
+/// Called where an arc's length decides on the rule by which it is crossed, with that length, which it gives back.
+fn measured(length: f64) -> f64 {
+    note(|work| work.length = Some(length));
+    length
+}
+
+/// Called after a crossing, with what is crossed.
+pub fn count_length(crossed: usize) {
+    note(|work| {
+        if let Some(length) = work.length.take() {
+            let place = LENGTHS.partition_point(|least| *least <= length);
+            work.lengths[crossed][place] += 1;
+        }
+    });
 }
 
 /// Called where one of the longitude functions has come to 2π, with the vector's y.

@@ -5,18 +5,19 @@ use crate::commands::{Command, Float, ALLOWANCE, ARC, END, PARALLEL, REPLY_BUFFE
 use crate::crossings::Crossings;
 use crate::inputs::{self, two_arcs, Input, NOT_FINITE};
 use crate::job_files::{self, Maker};
+use crate::lengths::Lengths;
 use crate::outcomes::Outcomes;
-use crate::random::moved;
+use crate::random::{moved, Random};
 use crate::reference;
-use crate::rules::{self, Settings};
+use crate::rules::{self, Reply, Settings};
 use crate::turns::Turns;
 use std::f64::consts::PI;
 use std::fmt;
 
 const SEED: u64 = 0x5374_6F72;
 const FILES: usize = 2_200;
-/// At least so many of each kind in each slot, of whole turns in either longitude function, of longitudes −0 and of each event of two arcs, and at most
-/// so many jobs tried for them.
+/// At least so many of each kind in each slot, of whole turns in either longitude function, of longitudes −0, of each length that decides on a rule and
+/// of each event of two arcs, and at most so many jobs tried for them.
 const OF_A_KIND: u64 = 4;
 /// So many of each class of two arcs.
 const OF_TWO_ARCS: usize = 6;
@@ -33,6 +34,7 @@ pub struct Stored {
     files: usize,
     outcomes: Outcomes,
     turns: Turns,
+    lengths: Lengths,
     crossings: Crossings,
     maker: Maker,
 }
@@ -45,6 +47,7 @@ pub fn make() -> Result<Stored, String> {
         files: 0,
         outcomes: Outcomes::default(),
         turns: Turns::default(),
+        lengths: Lengths::default(),
         crossings: Crossings::default(),
         maker: Maker::new(SEED),
     };
@@ -55,11 +58,29 @@ pub fn make() -> Result<Stored, String> {
     stored.add_refusals();
     stored.add_allowances();
     stored.add_kinds();
-    stored.add_turns();
+    stored.add_until(
+        inputs::beside_longitude_0,
+        |it| it.turns.least(),
+        |it, reply| it.turns.least_of(reply),
+    );
+    stored.add_until(
+        inputs::short_arc,
+        |it| it.lengths.least(),
+        |it, reply| it.lengths.least_of(reply),
+    );
     stored.add_two_arcs();
-    stored.add_crossings();
+    stored.add_until(
+        two_arcs::any,
+        |it| it.crossings.least(),
+        |it, reply| it.crossings.least_of(reply),
+    );
     stored.add_mixed();
-    let mut missing = [stored.outcomes.missing(), stored.crossings.missing()].concat();
+    let mut missing = [
+        stored.outcomes.missing(),
+        stored.lengths.missing(),
+        stored.crossings.missing(),
+    ]
+    .concat();
     if stored.turns.least() == 0 {
         missing.push("longitudes of a whole turn and of −0".to_string());
     }
@@ -91,6 +112,7 @@ impl Stored {
             reply.write(&mut replies);
             self.outcomes.count(&replies[at..]);
             self.turns.count(reply);
+            self.lengths.count(reply);
             self.crossings.count(reply);
         }
         let number = usize::from(answer.number);
@@ -263,21 +285,6 @@ impl Stored {
         }
     }
 
-    /// Jobs beside longitude 0, of which those are kept with a longitude of a whole turn or of −0 while there are too few.
-    fn add_turns(&mut self) {
-        for _ in 0..MOST_TRIED {
-            if self.turns.least() >= OF_A_KIND {
-                return;
-            }
-            let job = inputs::beside_longitude_0(&mut self.maker.random);
-            let (precision, allowance) = (1e-9, 20);
-            let reply = rules::reply(&job, &Settings::new(precision, allowance));
-            if self.turns.least_of(&reply) < OF_A_KIND {
-                self.add_job(precision, allowance, job);
-            }
-        }
-    }
-
     /// Two arcs of each class, which need no settings; a refused pair leaves those that are there.
     fn add_two_arcs(&mut self) {
         let (precision, allowance) = (Command::precision(1e-9), Command::allowance(20));
@@ -291,16 +298,22 @@ impl Stored {
         }
     }
 
-    /// Two arcs of any class, of which those are kept that bring an event of which there are too few.
-    fn add_crossings(&mut self) {
+    /// Jobs of which those are kept that add to what there is least of, until there is enough of it.
+    fn add_until(
+        &mut self,
+        draw: fn(&mut Random) -> Command,
+        least: fn(&Self) -> u64,
+        least_of: fn(&Self, &Reply) -> u64,
+    ) {
+        let (precision, allowance) = (1e-9, 20);
         for _ in 0..MOST_TRIED {
-            if self.crossings.least() >= OF_A_KIND {
+            if least(self) >= OF_A_KIND {
                 return;
             }
-            let pair = two_arcs::any(&mut self.maker.random);
-            let reply = rules::reply(&pair, &Settings::default());
-            if self.crossings.least_of(&reply) < OF_A_KIND {
-                self.add_commands(&[pair]);
+            let job = draw(&mut self.maker.random);
+            let reply = rules::reply(&job, &Settings::new(precision, allowance));
+            if least_of(self, &reply) < OF_A_KIND {
+                self.add_job(precision, allowance, job);
             }
         }
     }

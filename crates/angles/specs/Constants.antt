@@ -1,4 +1,4 @@
--- The constants that document 01 and the source name, as bit patterns. Definitions only; that each is what they write is a claim of the crate bounds.
+-- The constants that the papers and the source name, as bit patterns. Definitions only; that each is what they write is a claim of the crate bounds.
 use Rattle.std.specs.Prelude.{Float}
 use Rattle.std.specs.Float.{binary64}
 use Rattle.std.specs.Float.Ieee.{of_bits}
@@ -44,12 +44,13 @@ one_over_transition_z = of_bits binary64 0x3ff8_0000_0000_0000
 abbrev pub epsilon : Float
 epsilon = of_bits binary64 0x3cb0_0000_0000_0000
 
--- the limit of the near-meridian rule and that of the short-arc rule ("Crossing a parallel")
+-- the limit of the near-meridian rule ("Crossing a parallel")
 abbrev pub meridian_limit : Float
 meridian_limit = of_bits binary64 0x3d06_849b_86a1_2b9b
 
+-- the limit of the short-arc rule, "π / 648000 radians, one division, which is one arcsecond" (document 02, ask 5)
 abbrev pub short_limit : Float
-short_limit = of_bits binary64 0x3f90_4c26_be3b_06cf
+short_limit = of_bits binary64 0x3ed4_55a5_b2ff_8f9d
 
 -- 0.02 and 1e-15, in the limit of a walk ("Walks")
 abbrev pub fiftieth : Float

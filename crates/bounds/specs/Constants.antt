@@ -1,4 +1,4 @@
--- The constants of angles/specs/Constants.antt are what document 01 and the source write. The claim; `proofs/Constants.antt` proves it.
+-- The constants of angles/specs/Constants.antt are what the papers and the source write. The claim; `proofs/Constants.antt` proves it.
 use Rattle.std.specs.Float.{binary64}
 use Rattle.std.specs.Float.Ieee.{round}
 use Rattle.std.specs.Prelude.{◌≡◌, ◌^◌, false}
@@ -22,6 +22,6 @@ pub record Constants : Type 0 where
   pub one_over_transition_z_is : one_over_transition_z ≡ of_nat 3 ⊘ of_nat 2
   pub epsilon_is : epsilon ≡ round binary64 false 1 (2 ^ 52)
   pub meridian_limit_is : meridian_limit ≡ round binary64 false 1 (10 ^ 14)
-  pub short_limit_is : short_limit ≡ one ⊘ of_nat 3600 ⊗ (of_nat 180 ⊘ pi)
+  pub short_limit_is : short_limit ≡ pi ⊘ of_nat 648000
   pub fiftieth_is : fiftieth ≡ round binary64 false 2 (10 ^ 2)
   pub least_limit_is : least_limit ≡ round binary64 false 1 (10 ^ 15)

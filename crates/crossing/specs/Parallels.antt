@@ -54,7 +54,7 @@ quadratic arc z =
     let x2 = (neg b ⊖ sqrt_delta) ⊘ (two ⊗ a) in
     first_that_passes arc (vect x1 (neg x1 ⊗ x0y0 ⊖ zz0y0) z) (vect x2 (neg x2 ⊗ x0y0 ⊖ zz0y0) z)
 
--- the near-meridian rule, |y0| ≤ 1e-14, comes before the short-arc rule, below (1/3600) × (180/π) radians
+-- the near-meridian rule, |y0| ≤ 1e-14, comes before the short-arc rule, which "now applies below π / 648000 radians" (document 02, ask 5)
 unfoldable pub rule_of : GreatArc → Rule
 rule_of arc =
     cond (le (abs_of arc.normal.y) meridian_limit) NearMeridian

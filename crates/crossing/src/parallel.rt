@@ -7,8 +7,8 @@ use super::great_arc::GreatArc;
 use angles::{PI, float, inverse};
 use coo3d::vect3::Vect3;
 
-// (1.0 / 3600.0).to_degrees(), which the source takes for one arcsecond.
-const SHORT_ARC: f64 = (1.0 / 3600.0) * (180.0 / PI);
+// One arcsecond.
+const SHORT_ARC: f64 = PI / 648000.0;
 
 const NEAR_MERIDIAN: f64 = 1.0e-14;
 

@@ -1,11 +1,11 @@
 //! The ends of arcs.
 
-use super::{asin, atan, cos, sin, Class, Ends, BESIDE_LONGITUDE_0, TRANSITION_Z};
+use super::{asin, atan, cos, short, sin, Class, Ends, BESIDE_LONGITUDE_0, TRANSITION_Z};
 use crate::angles::{atan2, sin_cos};
 use crate::random::{moved, ten_to, Random};
 use std::f64::consts::{FRAC_PI_2, FRAC_PI_4, PI, TAU};
 
-pub const CLASSES: [Class<Ends>; 25] = [
+pub const CLASSES: [Class<Ends>; 28] = [
     ("uniform", |random| {
         joined(on_sphere(random), on_sphere(random))
     }),
@@ -14,7 +14,9 @@ pub const CLASSES: [Class<Ends>; 25] = [
         to_distance(random, start, -12.0, -1.0)
     }),
     ("camera edges", camera_edges),
-    ("about the short-arc limit", about_short_limit),
+    ("about one arcsecond", short::about_limit),
+    ("of one arcsecond", short::at_limit),
+    ("no longer flat", short::no_longer_flat),
     ("about a point in the equator", special_in_eqr),
     ("about a point in a cap", special_in_cap),
     ("about a point at a border", special_at_border),
@@ -34,6 +36,7 @@ pub const CLASSES: [Class<Ends>; 25] = [
     ("equal longitudes", equal_longitudes),
     ("equal latitudes", equal_latitudes),
     ("near-meridian planes", near_meridian),
+    ("short, beside the y axis", short_beside_y_axis),
     ("boundary values", boundary_values),
     ("kept", |random| random.one_of(&KEPT)),
 ];
@@ -255,15 +258,6 @@ pub fn camera_edges(random: &mut Random) -> Ends {
     camera_edge(random, start)
 }
 
-/// Of a length about (1/3600) × (180/π), where the short-arc rule ends.
-fn about_short_limit(random: &mut Random) -> Ends {
-    let limit = (1f64 / 3600.0).to_degrees();
-    let off = random.power_of_ten(-17.0, -2.0);
-    let distance = limit + random.signed(off);
-    let start = on_sphere(random);
-    joined(start, at_distance(random, start, distance))
-}
-
 /// Through `point` in this direction, to lengths of ten to a power between the two given on either side.
 fn through(random: &mut Random, point: Point, bearing: f64, low: f64, high: f64) -> Ends {
     let [back, ahead] = [(); 2].map(|()| random.power_of_ten(low, high));
@@ -310,13 +304,13 @@ fn special_at_border(random: &mut Random) -> Ends {
 }
 
 /// A point of the equatorial region and the direction in which it is special: that derivative is ±3π/8.
-fn point_in_eqr(random: &mut Random) -> (Point, f64) {
+pub fn point_in_eqr(random: &mut Random) -> (Point, f64) {
     let lat = asin(random.between(-TRANSITION_Z, TRANSITION_Z));
     let derivative = random.signed(1.5 * FRAC_PI_4);
     ([any_lon(random), lat], bearing_of(derivative, lat))
 }
 
-fn point_in_cap(random: &mut Random) -> (Point, f64) {
+pub fn point_in_cap(random: &mut Random) -> (Point, f64) {
     let in_quarter = random.between(0.0, FRAC_PI_2);
     point_in_quarter(random, in_quarter)
 }
@@ -506,10 +500,24 @@ pub fn near_meridian(random: &mut Random) -> Ends {
         let start = [lon, any_lat(random)];
         return joined(start, [lon + off, any_lat(random)]);
     }
+    let lons = [any_lon(random), any_lon(random)];
+    beside_y_axis(random, lons, off)
+}
+
+/// A piece of half a degree or so in a plane that the y axis lies close to, where small errors of x are large ones of y.
+fn short_beside_y_axis(random: &mut Random) -> Ends {
+    let off = random.power_of_ten(-16.0, -4.0);
+    let off = random.signed(off);
+    let lon = any_lon(random);
+    let lons = [lon, lon + random.between(0.001, 0.02)];
+    beside_y_axis(random, lons, off)
+}
+
+/// In a plane that holds the y axis, but for so much of the second latitude.
+fn beside_y_axis(random: &mut Random, lons: [f64; 2], off: f64) -> Ends {
     let steepness = random.power_of_ten(-3.0, 4.0);
     let steepness = random.signed(steepness);
-    let [lon1, lon2] = [any_lon(random), any_lon(random)];
-    let [lat1, lat2] = [lon1, lon2].map(|lon| atan(steepness * cos(lon)));
+    let [[lon1, lat1], [lon2, lat2]] = lons.map(|lon| [lon, atan(steepness * cos(lon))]);
     joined([lon1, lat1], [lon2, lat2 + off])
 }
 

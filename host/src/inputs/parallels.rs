@@ -1,11 +1,11 @@
 //! Arcs and the heights at which they are crossed.
 
 use super::cones::boundary_height;
-use super::{ends, sin, Class, Ends, BESIDE_LONGITUDE_0, TRANSITION_Z};
+use super::{ends, short, sin, Class, Ends, BESIDE_LONGITUDE_0, TRANSITION_Z};
 use crate::commands::{Command, PARALLEL};
 use crate::random::{moved, Random};
 
-pub const CLASSES: [Class<Command>; 9] = [
+pub const CLASSES: [Class<Command>; 10] = [
     ("between the ends", |random| {
         let ends = ends::any(random);
         at(ends, between(random, ends))
@@ -37,6 +37,7 @@ pub const CLASSES: [Class<Command>; 9] = [
         let ends = ends::at_meridian_limit(random);
         at(ends, between(random, ends))
     }),
+    ("about one arcsecond, or no longer flat", short_arc),
 ];
 
 /// At a height next to that of the first end, or at any between the two.
@@ -46,6 +47,12 @@ pub fn beside_longitude_0(random: &mut Random) -> Command {
     let towards = if z1 < z2 { 1 } else { -1 };
     let heights = [moved(z1, towards), between(random, ends)];
     at(ends, random.one_of(&heights))
+}
+
+/// At a height between its ends.
+pub fn short_arc(random: &mut Random) -> Command {
+    let ends = short::any(random);
+    at(ends, between(random, ends))
 }
 
 /// The heights of both ends, as the finder works them out.

@@ -6,8 +6,8 @@ use super::{Content, Reply};
 use crate::commands::Command;
 use crate::pattern;
 use crate::reference::{
-    cone_special_point_in_eqr, cone_special_point_in_pc, intersect_parallel, two_arcs, watch,
-    LonLat, Panic, Slot, Watched,
+    cone_special_point_in_eqr, cone_special_point_in_pc, count_length, intersect_parallel,
+    two_arcs, watch, LonLat, Panic, Slot, Watched, PARALLELS,
 };
 
 const STATUS_12: u8 = 12;
@@ -48,7 +48,11 @@ fn height(command: &Command, cone: &Watched<Option<f64>>) -> Reply {
 pub fn parallel(command: &Command) -> Reply {
     let [p1, p2] = ends(command);
     let z = command.floats[4];
-    let crossing = watch(|| intersect_parallel(&p1, &p2, z).map(|vector| vector.lonlat()));
+    let crossing = watch(|| {
+        let vector = intersect_parallel(&p1, &p2, z);
+        count_length(PARALLELS);
+        vector.map(|vector| vector.lonlat())
+    });
     let (kind, point) = match &crossing.result {
         Ok(Some(point)) => found(point),
         Ok(None) => (4, [0; 2]),
@@ -85,6 +89,7 @@ fn crossed<T>(command: &Command, kind: u8, point: [u64; 2], watched: &Watched<T>
             point,
         }),
         whole_turns: watched.work.whole_turns,
+        lengths: watched.work.lengths,
         ..Reply::with_status(*command, 0)
     }
 }
