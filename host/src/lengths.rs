@@ -4,7 +4,7 @@ use crate::outcomes::print_row;
 use crate::reference::{CROSSED, LENGTHS};
 use crate::rules::Reply;
 
-/// Each stands for the lengths from the one before on.
+/// The names of what lies between one of `LENGTHS` and the next.
 const NAMES: [&str; LENGTHS.len() + 1] = [
     "less",
     "just under",

@@ -37,13 +37,15 @@ pub type WholeTurns = [[u32; SIZES_OF_Y.len() + 1]; LONGITUDES.len()];
 pub const SHORT_LIMIT: f64 = PI / 648000.0;
 /// Where the source has the flat rule end.
 pub const OLD_SHORT_LIMIT: f64 = (1.0 / 3600.0) * (180.0 / PI);
+/// From here to that limit the comparison has arcs to which the flat rule no longer applies.
+pub const QUARTER_DEGREE: f64 = 0.25 * PI / 180.0;
 /// The lengths of arcs are told apart at these.
 pub const LENGTHS: [f64; 6] = [
     SHORT_LIMIT * (1.0 - 1e-9),
     SHORT_LIMIT,
     f64::from_bits(SHORT_LIMIT.to_bits() + 1),
     SHORT_LIMIT * (1.0 + 1e-9),
-    0.25 * PI / 180.0,
+    QUARTER_DEGREE,
     OLD_SHORT_LIMIT,
 ];
 /// What is crossed by a rule that the length has decided.

@@ -5,7 +5,7 @@ use super::ends::{
 };
 use super::Ends;
 use crate::random::Random;
-use crate::reference::{OLD_SHORT_LIMIT, SHORT_LIMIT};
+use crate::reference::{OLD_SHORT_LIMIT, QUARTER_DEGREE, SHORT_LIMIT};
 
 /// A point and the direction of an arc through it.
 type Draw = fn(&mut Random) -> (Point, f64);
@@ -94,7 +94,7 @@ pub fn about_limit(random: &mut Random) -> Ends {
 
 /// From a quarter of a degree to the source's limit, 0.91 degrees.
 pub fn no_longer_flat(random: &mut Random) -> Ends {
-    let length = random.between(0.25f64.to_radians(), OLD_SHORT_LIMIT);
+    let length = random.between(QUARTER_DEGREE, OLD_SHORT_LIMIT);
     of_length(random, length)
 }
 

@@ -1,6 +1,6 @@
 -- A subnormal number is moved up by as many places as its leading zeros tell, a normal one has its leading digit put back; proofs/Bits.antt says
 -- that either has the pattern's root and digits.
-use mathlib.Core.Path.{◌≡◌, sym, ap, ◌∙◌, subst}
+use mathlib.Core.Path.{◌≡◌, sym, ap₂, ◌∙◌, subst}
 use Prim.Native.Nat.{ℕ, ◌-◌, ◌*◌, ◌%◌, ◌^◌, ◌≤◌, ◌<◌}
 use native.Mathlib.Nat.{mod-eq_of_lt}
 use native.Mathlib.Omega.{arith}
@@ -9,7 +9,6 @@ use lib.Count.{count_leading_zeros}
 use Rattle.root.specs.Parts.{Reads, Parted}
 use Rattle.root.proofs.Bits.{Moved, moved, read_normal, read_subnormal, parted}
 use Rattle.root.proofs.normal.parts_of.Goals as goal
-use Rattle.root.proofs.normal.parts_of.Goals.{Else-t-eq0}
 
 -- nothing is lost at the top
 shifted : (t z : ℕ) → Moved t z → t * 2 ^ (z - 11) % 2 ^ 64 ≡ t * 2 ^ (z - 11)
@@ -22,29 +21,29 @@ kept e l h = omega arith
 same : {b m k x y : ℕ} → x ≡ m → y ≡ k → Parted b m k → Parted b x y
 same {b} {m} {k} {x} {y} e f p = subst (λ (z : ℕ). Parted b z y) (sym e) (subst (Parted b m) (sym f) p)
 
-at : (c : Else-t-eq0) → Moved (c.args.b % 2 ^ 52) (count_leading_zeros 64 (c.args.b % 2 ^ 52))
-at c = moved (c.args.b % 2 ^ 52) (omega arith) (omega arith)
+at : (b : ℕ) → 0 < b % 2 ^ 52 → Moved (b % 2 ^ 52) (count_leading_zeros 64 (b % 2 ^ 52))
+at b h = moved (b % 2 ^ 52) h (omega arith)
 
 pub overflow_sub-s : goal.overflow_sub-s
-overflow_sub-s c = omega (arith, at c)
+overflow_sub-s c = omega (arith, at c.args.b (omega arith))
 
 pub overflow_add-g : goal.overflow_add-g
-overflow_add-g c = omega (arith, at c, shifted _ _ (at c))
+overflow_add-g c = let m = at c.args.b (omega arith) in omega (arith, m, shifted _ _ m)
 
 pub even_parts-requires-2-clause-significand : goal.even_parts-requires-2-clause-significand
-even_parts-requires-2-clause-significand c = let m = at c in kept (shifted _ _ m) m.least m.most
+even_parts-requires-2-clause-significand c = let m = at c.args.b (omega arith) in kept (shifted _ _ m) m.least m.most
 
 pub returns-clause-parts : goal.returns-clause-parts
 returns-clause-parts c =
     let b = c.args.b in
     let t = b % 2 ^ 52 in
-    let m = at c.before in
+    let m = at b (omega arith) in
     let s = count_leading_zeros 64 t - 11 in
     let e : t ≡ b = omega arith in
     let r = subst (λ (x : ℕ). Reads (of_bits binary64 x) (t * 2 ^ s * 2 ^ (1074 - s))) e (read_subnormal t s (omega arith) (omega arith) (omega arith)) in
     same
-    (c.even_parts-2.ensures.0 ∙ ap (λ (x : ℕ). x * 2 ^ ((1074 - s) % 2)) (shifted t (count_leading_zeros 64 t) m))
-    c.even_parts-2.ensures.1
+    (c.even_parts-2.ensures.0 ∙ ap₂ (λ (x g : ℕ). x * 2 ^ (g % 2)) (shifted t (count_leading_zeros 64 t) m) (omega arith))
+    (omega (arith, c.even_parts-2.ensures.1))
     (parted b (t * 2 ^ s) (1074 - s) m.least m.most (omega arith) (omega arith) r)
 
 pub returns-then-e-gt0-clause-parts : goal.returns-then-e-gt0-clause-parts

@@ -4,6 +4,7 @@ use mathlib.Core.Path.{◌≡◌, subst}
 use mathlib.Core.Bool.{Bool, false, ◌&&◌}
 use lib.Dec.{ltb}
 use native.Mathlib.Omega.{arith}
+use Rattle.whole_root.specs.Roots.{WholeRoot}
 use Rattle.whole_root.proofs.Loop.{Brought, Digit, top_digit, power, asked, turn, left}
 use Rattle.whole_root.proofs.digits.sqrt_rem.Goals as goal
 use Rattle.whole_root.proofs.digits.sqrt_rem.Goals.{After-gain-k}
@@ -45,4 +46,5 @@ loop-n-preserved c =
 pub returns : goal.returns
 returns c =
     let l = c.loop-n in
-    left _ _ _ _ _ (omega arith) l.invariant (subst (λ (b : Bool). (ltb l.n 53 && b) ≡ false) c.remains.ensures c.loop-n-test.false)
+    let w = left _ _ _ _ _ (omega arith) l.invariant (subst (λ (b : Bool). (ltb l.n 53 && b) ≡ false) c.remains.ensures c.loop-n-test.false) in
+    subst (λ (k : ℕ). WholeRoot (c.args.of.m * 2 ^ 52) (l.s.root * 2 ^ k % 2 ^ 64) l.s.rem) (omega arith) w
