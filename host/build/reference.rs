@@ -68,6 +68,20 @@ const SHORT_ARC_EDITS: [Edit; 1] = [edit(
     "ang_dist < PI / 648000.0",
 )];
 
+/// Two branches, one right after the other, and how the branch after them begins.
+struct Branches {
+    first: &'static str,
+    second: &'static str,
+    next: &'static str,
+}
+
+/// Document 02, ask 6: "The reference has the two branches exchanged".
+const RULE_BRANCHES: Branches = Branches {
+    first: "if y0.abs() <= 1e-14 {",
+    second: "if ang_dist < PI / 648000.0 {",
+    next: "} else {\n      let x0_y0 = x0 / y0;",
+};
+
 // From here on: calls of src/reference.rs. They change nothing of what is worked out.
 
 const COO3D_CALLS: [Edit; 5] = [
@@ -137,11 +151,15 @@ const FINDER_CALLS: [Edit; 16] = [
         "super::second_comes_first(); super::piece_begins(super::FIRST);",
     ),
     edit(2, "Some(v.lonlat())", "super::crossed(Some(v.lonlat()))"),
-    edit(1, "ang_dist < PI", "super::measured(ang_dist) < PI"),
+    edit(
+        1,
+        "if ang_dist < PI",
+        "if super::measured(ang_dist, y0) < PI",
+    ),
     edit(
         2,
         "TRANSITION_Z)\n}",
-        "TRANSITION_Z).inspect(|_| super::count_length(super::SPLITS))\n}",
+        "TRANSITION_Z).inspect(|_| super::count_arc(super::SPLITS))\n}",
     ),
 ];
 
@@ -185,12 +203,12 @@ pub fn prepare(repository: &Path) {
 /// Writes the reference with document 01's angle functions and document 02's changes, and with these edits more of its two files.
 fn write(folder: &Path, name: &str, [in_coo3d, in_finder]: [&[Edit]; 2]) -> Result<(), String> {
     let lib = read(folder, LIB)?;
-    let coo3d = with_edits(folder, COO3D, &[&COO3D_EDITS, &LONGITUDE_EDITS, in_coo3d])?;
-    let finder = with_edits(
-        folder,
-        FINDER,
-        &[&FINDER_EDITS, &SHORT_ARC_EDITS, in_finder],
-    )?;
+    let coo3d = read(folder, COO3D)?;
+    let coo3d = edited(coo3d, COO3D, &[&COO3D_EDITS, &LONGITUDE_EDITS, in_coo3d])?;
+    let finder = read(folder, FINDER)?;
+    let finder = edited(finder, FINDER, &[&FINDER_EDITS, &SHORT_ARC_EDITS])?;
+    let finder = exchanged(&finder, FINDER, &RULE_BRANCHES)?;
+    let finder = edited(finder, FINDER, &[in_finder])?;
     let mut text = String::new();
     for start in LIB_ITEMS {
         text += &item(&lib, start)?;
@@ -208,18 +226,41 @@ fn read(folder: &Path, name: &str) -> Result<String, String> {
     fs::read_to_string(&path).map_err(|error| format!("{}: {error}", path.display()))
 }
 
-fn with_edits(folder: &Path, name: &str, edits: &[&[Edit]]) -> Result<String, String> {
-    let mut text = read(folder, name)?;
+fn edited(mut text: String, name: &str, edits: &[&[Edit]]) -> Result<String, String> {
     for Edit { places, from, to } in edits.iter().copied().flatten() {
-        let found = text.matches(from).count();
-        if found != *places {
-            return Err(format!("{name} has `{from}` {found} times, not {places}"));
-        }
+        check_count(&text, name, from, *places)?;
         text = text.replace(from, to);
     }
     match FORBIDDEN.iter().find(|word| text.contains(*word)) {
         Some(word) => Err(format!("{name} still has `{word}`")),
         None => Ok(text),
+    }
+}
+
+/// With the two branches exchanged, and nothing else.
+fn exchanged(text: &str, name: &str, branches: &Branches) -> Result<String, String> {
+    let Branches {
+        first,
+        second,
+        next,
+    } = branches;
+    for start in [first, second, next] {
+        check_count(text, name, start, 1)?;
+    }
+    let parted = text.split_once(first).and_then(|(before, rest)| {
+        let (one, rest) = rest.split_once(&format!("}} else {second}"))?;
+        let (other, after) = rest.split_once(next)?;
+        Some([before, one, other, after])
+    });
+    let [before, one, other, after] =
+        parted.ok_or(format!("{name} does not have `{second}` after `{first}`"))?;
+    Ok([before, second, other, "} else ", first, one, next, after].concat())
+}
+
+fn check_count(text: &str, name: &str, part: &str, places: usize) -> Result<(), String> {
+    match text.matches(part).count() {
+        found if found == places => Ok(()),
+        found => Err(format!("{name} has `{part}` {found} times, not {places}")),
     }
 }
 

@@ -10,7 +10,7 @@ use crate::crossings::Crossings;
 use crate::finder;
 use crate::inputs::{two_arcs, BESIDE_LONGITUDE_0, TWO_ARCS};
 use crate::job_files::{self, Maker};
-use crate::lengths::Lengths;
+use crate::limits::Limits;
 use crate::outcomes::{print_row, Outcomes};
 use crate::reference::{self, Panic};
 use crate::rules::{self, Answer, Content, Reply};
@@ -81,7 +81,7 @@ struct Comparison {
     total: Tally,
     outcomes: Outcomes,
     turns: Turns,
-    lengths: Lengths,
+    limits: Limits,
     geometry: Geometry,
     /// Slots that the reference did not come to.
     unknown_slots: u64,
@@ -104,7 +104,7 @@ impl Comparison {
             total: Tally::default(),
             outcomes: Outcomes::default(),
             turns: Turns::default(),
-            lengths: Lengths::default(),
+            limits: Limits::new(),
             geometry: Geometry::default(),
             unknown_slots: 0,
             files: 0,
@@ -164,7 +164,7 @@ impl Comparison {
             }
             self.unknown_slots += reply.unknown_slots() as u64;
             self.turns.count(reply);
-            self.lengths.count(reply);
+            self.limits.count(reply);
             if let Some(difference) = difference {
                 differs = true;
                 self.show(job, buffer, &format!("{}: {difference}", reply.command));
@@ -263,7 +263,7 @@ impl Comparison {
         self.total.print("all");
         self.outcomes.print();
         self.turns.print();
-        self.lengths.print();
+        self.limits.print();
         self.total.crossings.print();
         self.geometry.print();
         print_row(
@@ -305,7 +305,7 @@ impl Comparison {
         let others = [
             self.outcomes.missing(),
             turns,
-            self.lengths.missing(),
+            self.limits.missing(),
             self.depends.missing(),
         ];
         [others.concat(), crossings.concat()].concat()

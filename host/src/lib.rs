@@ -18,7 +18,7 @@ pub mod inputs;
 #[cfg(reference)]
 pub mod job_files;
 #[cfg(reference)]
-pub mod lengths;
+pub mod limits;
 #[cfg(reference)]
 pub mod outcomes;
 pub mod patterns;

@@ -48,7 +48,9 @@ pub const LENGTHS: [f64; 6] = [
     QUARTER_DEGREE,
     OLD_SHORT_LIMIT,
 ];
-/// What is crossed by a rule that the length has decided.
+/// Document 02, ask 6: "|y0| at most 1e-14".
+const NEAR_MERIDIAN: f64 = 1e-14;
+/// What is crossed by a rule that length and y0 have decided.
 pub const CROSSED: [&str; 4] = [
     "splits",
     "pieces in the equator",
@@ -59,8 +61,14 @@ const SPLITS: usize = 0;
 const EQUATOR_PIECES: usize = 1;
 const CAP_PIECES: usize = 2;
 pub const PARALLELS: usize = 3;
-/// How often each was of each length.
-pub type ByLength = [[u32; LENGTHS.len() + 1]; CROSSED.len()];
+/// How often each was crossed by such a rule.
+#[derive(Clone, Copy, Debug, Default)]
+pub struct Crossed {
+    /// By length.
+    pub lengths: [[u32; LENGTHS.len() + 1]; CROSSED.len()],
+    /// Of those within ten times of both limits: near-meridian and short, near-meridian alone, short alone, neither.
+    pub sides: [[u32; 4]; CROSSED.len()],
+}
 
 /// How far the reference has come with a slot, as document 01's kinds: 0 no piece, 1 a piece, 2 a walk, 3 a point, 4 no crossing. A crossing
 /// at which it panics leaves a 2.
@@ -81,11 +89,11 @@ pub struct Work {
     /// The slot that was worked on last.
     pub at: usize,
     pub whole_turns: WholeTurns,
-    pub lengths: ByLength,
+    pub crossed: Crossed,
     /// The first slot of the region.
     region: usize,
-    /// The length that has decided on the rule of a crossing which is not counted yet.
-    length: Option<f64>,
+    /// Length and |y0| of an arc whose crossing is not counted yet.
+    arc: Option<[f64; 2]>,
 }
 
 const NO_WORK: Work = Work {
@@ -97,9 +105,12 @@ const NO_WORK: Work = Work {
     order: [0, 1, 2, 3, 4],
     at: 0,
     whole_turns: [[0; SIZES_OF_Y.len() + 1]; LONGITUDES.len()],
-    lengths: [[0; LENGTHS.len() + 1]; CROSSED.len()],
+    crossed: Crossed {
+        lengths: [[0; LENGTHS.len() + 1]; CROSSED.len()],
+        sides: [[0; 4]; CROSSED.len()],
+    },
     region: 0,
-    length: None,
+    arc: None,
 };
 
 thread_local! {
@@ -159,7 +170,7 @@ fn crossed(crossing: Option<LonLat>) -> Option<LonLat> {
         None => slot.kind = 4,
     });
     let in_equator = WORK.with_borrow(|work| work.region == EQUATOR);
-    count_length(if in_equator {
+    count_arc(if in_equator {
         EQUATOR_PIECES
     } else {
         CAP_PIECES
@@ -167,18 +178,24 @@ fn crossed(crossing: Option<LonLat>) -> Option<LonLat> {
     crossing
 }
 
-/// Called where an arc's length decides on the rule by which it is crossed, with that length, which it gives back.
-fn measured(length: f64) -> f64 {
-    note(|work| work.length = Some(length));
+/// Called where an arc's length and y0 decide on the rule by which it is crossed. Gives back the length.
+fn measured(length: f64, y0: f64) -> f64 {
+    note(|work| work.arc = Some([length, y0.abs()]));
     length
 }
 
 /// Called after a crossing, with what is crossed.
-pub fn count_length(crossed: usize) {
+pub fn count_arc(crossed: usize) {
     note(|work| {
-        if let Some(length) = work.length.take() {
-            let place = LENGTHS.partition_point(|least| *least <= length);
-            work.lengths[crossed][place] += 1;
+        let Some([length, y0]) = work.arc.take() else {
+            return;
+        };
+        let place = LENGTHS.partition_point(|least| *least <= length);
+        work.crossed.lengths[crossed][place] += 1;
+        let about_one = (0.1 * SHORT_LIMIT..10.0 * SHORT_LIMIT).contains(&length);
+        if about_one && y0 <= 10.0 * NEAR_MERIDIAN {
+            let sides = [y0 > NEAR_MERIDIAN, length >= SHORT_LIMIT].map(usize::from);
+            work.crossed.sides[crossed][2 * sides[0] + sides[1]] += 1;
         }
     });
 }

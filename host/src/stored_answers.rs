@@ -5,7 +5,7 @@ use crate::commands::{Command, Float, ALLOWANCE, ARC, END, PARALLEL, REPLY_BUFFE
 use crate::crossings::Crossings;
 use crate::inputs::{self, two_arcs, Input, NOT_FINITE};
 use crate::job_files::{self, Maker};
-use crate::lengths::Lengths;
+use crate::limits::Limits;
 use crate::outcomes::Outcomes;
 use crate::random::{moved, Random};
 use crate::reference;
@@ -34,7 +34,7 @@ pub struct Stored {
     files: usize,
     outcomes: Outcomes,
     turns: Turns,
-    lengths: Lengths,
+    limits: Limits,
     crossings: Crossings,
     maker: Maker,
 }
@@ -47,7 +47,7 @@ pub fn make() -> Result<Stored, String> {
         files: 0,
         outcomes: Outcomes::default(),
         turns: Turns::default(),
-        lengths: Lengths::default(),
+        limits: Limits::new(),
         crossings: Crossings::default(),
         maker: Maker::new(SEED),
     };
@@ -65,8 +65,8 @@ pub fn make() -> Result<Stored, String> {
     );
     stored.add_until(
         inputs::short_arc,
-        |it| it.lengths.least(),
-        |it, reply| it.lengths.least_of(reply),
+        |it| it.limits.least(),
+        |it, reply| it.limits.least_of(reply),
     );
     stored.add_two_arcs();
     stored.add_until(
@@ -77,7 +77,7 @@ pub fn make() -> Result<Stored, String> {
     stored.add_mixed();
     let mut missing = [
         stored.outcomes.missing(),
-        stored.lengths.missing(),
+        stored.limits.missing(),
         stored.crossings.missing(),
     ]
     .concat();
@@ -112,7 +112,7 @@ impl Stored {
             reply.write(&mut replies);
             self.outcomes.count(&replies[at..]);
             self.turns.count(reply);
-            self.lengths.count(reply);
+            self.limits.count(reply);
             self.crossings.count(reply);
         }
         let number = usize::from(answer.number);

@@ -1,2 +1,3 @@
 pub mod GreatArcs
 pub mod Parallels
+pub mod RuleOrder

@@ -54,11 +54,11 @@ quadratic arc z =
     let x2 = (neg b ⊖ sqrt_delta) ⊘ (two ⊗ a) in
     first_that_passes arc (vect x1 (neg x1 ⊗ x0y0 ⊖ zz0y0) z) (vect x2 (neg x2 ⊗ x0y0 ⊖ zz0y0) z)
 
--- the near-meridian rule, |y0| ≤ 1e-14, comes before the short-arc rule, which "now applies below π / 648000 radians" (document 02, ask 5)
+-- "Short arcs shall now be tested first" (document 02, ask 6), those "below π / 648000 radians" (ask 5); then near-meridian ones, |y0| ≤ 1e-14
 unfoldable pub rule_of : GreatArc → Rule
 rule_of arc =
-    cond (le (abs_of arc.normal.y) meridian_limit) NearMeridian
-    (cond (lt (atan2_of arc.norm arc.dot) short_limit) ShortArc Quadratic)
+    cond (lt (atan2_of arc.norm arc.dot) short_limit) ShortArc
+    (cond (le (abs_of arc.normal.y) meridian_limit) NearMeridian Quadratic)
 
 unfoldable pub by_rule : GreatArc → Rule → Float → Crossing
 by_rule arc NearMeridian z = near_meridian arc z

@@ -86,15 +86,15 @@ impl GreatArc {
         self.first_that_passes(Vect3 { x: x1, y: y1, z }, Vect3 { x: x2, y: y2, z })
     }
 
-    // The near-meridian rule comes before the short-arc rule.
+    // The short-arc rule comes before the near-meridian rule.
     #[tactic(auto, unfolding(crate::specs::Parallels::rule_of))]
     pub fn rule(self) -> Rule
         ensures { result ≡ rule_of self }
     {
-        if float::abs(self.normal.y) <= NEAR_MERIDIAN {
-            Rule::NearMeridian
-        } else if inverse::atan2(self.norm, self.dot) < SHORT_ARC {
+        if inverse::atan2(self.norm, self.dot) < SHORT_ARC {
             Rule::ShortArc
+        } else if float::abs(self.normal.y) <= NEAR_MERIDIAN {
+            Rule::NearMeridian
         } else {
             Rule::Quadratic
         }

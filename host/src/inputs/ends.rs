@@ -5,7 +5,7 @@ use crate::angles::{atan2, sin_cos};
 use crate::random::{moved, ten_to, Random};
 use std::f64::consts::{FRAC_PI_2, FRAC_PI_4, PI, TAU};
 
-pub const CLASSES: [Class<Ends>; 28] = [
+pub const CLASSES: [Class<Ends>; 29] = [
     ("uniform", |random| {
         joined(on_sphere(random), on_sphere(random))
     }),
@@ -16,6 +16,10 @@ pub const CLASSES: [Class<Ends>; 28] = [
     ("camera edges", camera_edges),
     ("about one arcsecond", short::about_limit),
     ("of one arcsecond", short::at_limit),
+    (
+        "about one arcsecond and near-meridian",
+        short::about_both_limits,
+    ),
     ("no longer flat", short::no_longer_flat),
     ("about a point in the equator", special_in_eqr),
     ("about a point in a cap", special_in_cap),
@@ -269,7 +273,7 @@ fn through(random: &mut Random, point: Point, bearing: f64, low: f64, high: f64)
 }
 
 /// The direction in which an arc has a slope of one on the projection plane, for a derivative of the longitude by the height.
-fn bearing_of(derivative: f64, lat: f64) -> f64 {
+pub fn bearing_of(derivative: f64, lat: f64) -> f64 {
     atan(derivative * cos(lat) * cos(lat))
 }
 

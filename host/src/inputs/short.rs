@@ -1,11 +1,13 @@
-//! Document 02, ask 5: arcs about one arcsecond, where the flat rule ends, and arcs to which it applied before.
+//! Document 02, ask 5: arcs about one arcsecond, where the flat rule ends, and arcs to which it applied before. Ask 6: those of about that length in a
+//! plane that the y axis lies in, or nearly.
 
 use super::ends::{
-    any_lon, joined, point_in_cap, point_in_eqr, towards, transition_latitude, Point,
+    any_lon, bearing_of, joined, point_in_cap, point_in_eqr, towards, transition_latitude, Point,
 };
-use super::Ends;
+use super::{asin, atan, Ends, TRANSITION_Z};
 use crate::random::Random;
 use crate::reference::{OLD_SHORT_LIMIT, QUARTER_DEGREE, SHORT_LIMIT};
+use std::f64::consts::{FRAC_PI_2, FRAC_PI_4};
 
 /// A point and the direction of an arc through it.
 type Draw = fn(&mut Random) -> (Point, f64);
@@ -15,6 +17,9 @@ const THROUGH: [Draw; 3] = [point_in_eqr, point_in_cap, |random| {
     let lat = random.signed(transition_latitude());
     ([any_lon(random), lat], any_lon(random))
 }];
+
+/// The same in planes that the y axis lies in, or nearly: along the meridians of 90 and 270 degrees over T, and through a special point of the equator.
+const BESIDE_Y_AXIS: [Draw; 2] = [along_meridian, special_in_plane_of_y];
 
 /// Ends whose distance comes to exactly one arcsecond, found by trying some thousand to some million arcs for each: three about a special point in the
 /// equator, three about one in a cap, and three over −T or T.
@@ -75,10 +80,90 @@ const AT_LIMIT: [Ends; 9] = [
     ],
 ];
 
-/// Through such a point, of this length.
-fn of_length(random: &mut Random, length: f64) -> Ends {
-    let (point, bearing) = random.one_of(&THROUGH)(random);
+/// About both limits in a cap, where such a plane has special points only within a minute of the pole, and by rounding: found by trying some thousand arcs
+/// for each. The first two are near-meridian and short, the next two near-meridian alone, then two short alone, and two neither.
+const BESIDE_POLE: [Ends; 8] = [
+    [
+        4.712388943544699,
+        1.570782698272831,
+        4.712388923517297,
+        1.570787497928274,
+    ],
+    [
+        1.5707965717374541,
+        -1.570639083881201,
+        1.5707965644823243,
+        -1.570634284225758,
+    ],
+    [
+        4.712389375169325,
+        1.5707842932998426,
+        4.712389646031448,
+        1.5707891899180217,
+    ],
+    [
+        1.5707961695082056,
+        -1.5705777762766184,
+        1.5707961729549844,
+        -1.5705728796584393,
+    ],
+    [
+        4.712388364725708,
+        1.5706061679127912,
+        4.712388348783955,
+        1.5706109675682343,
+    ],
+    [
+        1.5707988085355173,
+        -1.5706311843086511,
+        1.570798738444016,
+        -1.5706263846532083,
+    ],
+    [
+        1.570795455021418,
+        1.5705401080792674,
+        1.5707954380362747,
+        1.5705450046974465,
+    ],
+    [
+        4.7123859006606175,
+        -1.5705941886751136,
+        4.71238597349976,
+        -1.5705892920569344,
+    ],
+];
+
+/// 90 or 270 degrees, or next to that.
+fn lon_of_y_axis(random: &mut Random) -> f64 {
+    let off = random.power_of_ten(-17.0, -12.0);
+    random.one_of(&[FRAC_PI_2, 3.0 * FRAC_PI_2]) + random.signed(off)
+}
+
+fn along_meridian(random: &mut Random) -> (Point, f64) {
+    let lat = random.signed(transition_latitude());
+    ([lon_of_y_axis(random), lat], 0.0)
+}
+
+/// Where an arc in a plane with the y axis has its special direction, close to that axis or to T: there dz/dlon is −tan(lon) z (1 − z²).
+fn special_in_plane_of_y(random: &mut Random) -> (Point, f64) {
+    let derivative = 1.5 * FRAC_PI_4;
+    let z = if random.flip() {
+        random.power_of_ten(-9.0, -0.177)
+    } else {
+        TRANSITION_Z - random.power_of_ten(-9.0, -5.5)
+    };
+    let off = atan(derivative * z * (1.0 - z * z));
+    let (z, off) = (random.signed(z), random.signed(off));
+    let lat = asin(z);
+    let bearing = bearing_of(derivative.copysign(off * z), lat);
+    ([lon_of_y_axis(random) + off, lat], bearing)
+}
+
+/// Through a point that one of these draws, or from it, of this length.
+fn of_length(random: &mut Random, draws: &[Draw], length: f64) -> Ends {
+    let (point, bearing) = random.one_of(draws)(random);
     let back = random.between(0.0, length);
+    let back = random.one_of(&[0.0, back, back, length]);
     joined(
         towards(point, bearing, -back),
         towards(point, bearing, length - back),
@@ -86,25 +171,42 @@ fn of_length(random: &mut Random, length: f64) -> Ends {
 }
 
 /// Under or over one arcsecond, by a part of it.
-pub fn about_limit(random: &mut Random) -> Ends {
+fn length_about_limit(random: &mut Random) -> f64 {
     let off = random.power_of_ten(-12.0, 0.0);
-    let length = SHORT_LIMIT * (1.0 + random.signed(off));
-    of_length(random, length)
+    SHORT_LIMIT * (1.0 + random.signed(off))
+}
+
+pub fn about_limit(random: &mut Random) -> Ends {
+    let length = length_about_limit(random);
+    of_length(random, &THROUGH, length)
+}
+
+/// Where |y0| is about 1e-14 too.
+pub fn about_both_limits(random: &mut Random) -> Ends {
+    if random.below(4) == 0 {
+        return one_nudged(random, &BESIDE_POLE);
+    }
+    let length = length_about_limit(random);
+    of_length(random, &BESIDE_Y_AXIS, length)
 }
 
 /// From a quarter of a degree to the source's limit, 0.91 degrees.
 pub fn no_longer_flat(random: &mut Random) -> Ends {
     let length = random.between(QUARTER_DEGREE, OLD_SHORT_LIMIT);
-    of_length(random, length)
+    of_length(random, &THROUGH, length)
 }
 
 /// Of exactly one arcsecond as the finder works it out, or next to that.
 pub fn at_limit(random: &mut Random) -> Ends {
-    let [lon1, lat1, lon2, lat2] = random.one_of(&AT_LIMIT);
+    one_nudged(random, &AT_LIMIT)
+}
+
+fn one_nudged(random: &mut Random, ends: &[Ends]) -> Ends {
+    let [lon1, lat1, lon2, lat2] = random.one_of(ends);
     joined([lon1, lat1], [lon2, random.nudged(lat2)])
 }
 
 /// Of any of these.
 pub fn any(random: &mut Random) -> Ends {
-    random.one_of(&[about_limit, no_longer_flat, at_limit])(random)
+    random.one_of(&[about_limit, about_both_limits, no_longer_flat, at_limit])(random)
 }

@@ -39,7 +39,7 @@ pub fn reply(command: &Command, (precision, allowance): (f64, u8)) -> Reply {
         content: Content::Slots(slots(&watched, &ends)),
         panic,
         whole_turns: watched.work.whole_turns,
-        lengths: watched.work.lengths,
+        crossed: watched.work.crossed,
         ..Reply::with_status(*command, 0)
     }
 }

@@ -6,8 +6,8 @@ use super::{Content, Reply};
 use crate::commands::Command;
 use crate::pattern;
 use crate::reference::{
-    cone_special_point_in_eqr, cone_special_point_in_pc, count_length, intersect_parallel,
-    two_arcs, watch, LonLat, Panic, Slot, Watched, PARALLELS,
+    cone_special_point_in_eqr, cone_special_point_in_pc, count_arc, intersect_parallel, two_arcs,
+    watch, LonLat, Panic, Slot, Watched, PARALLELS,
 };
 
 const STATUS_12: u8 = 12;
@@ -50,7 +50,7 @@ pub fn parallel(command: &Command) -> Reply {
     let z = command.floats[4];
     let crossing = watch(|| {
         let vector = intersect_parallel(&p1, &p2, z);
-        count_length(PARALLELS);
+        count_arc(PARALLELS);
         vector.map(|vector| vector.lonlat())
     });
     let (kind, point) = match &crossing.result {
@@ -89,7 +89,7 @@ fn crossed<T>(command: &Command, kind: u8, point: [u64; 2], watched: &Watched<T>
             point,
         }),
         whole_turns: watched.work.whole_turns,
-        lengths: watched.work.lengths,
+        crossed: watched.work.crossed,
         ..Reply::with_status(*command, 0)
     }
 }

@@ -1,7 +1,7 @@
 //! The reply to one command.
 
 use crate::commands::{Command, SLOT};
-use crate::reference::{ByLength, Panic, Slot, WholeTurns};
+use crate::reference::{Crossed, Panic, Slot, WholeTurns};
 use std::f64::consts::TAU;
 
 /// For an answer or a panic of the reference's that no kind stands for.
@@ -29,8 +29,8 @@ pub struct Reply {
     pub panic: Option<Panic>,
     /// How often a longitude came to 2π in its work.
     pub whole_turns: WholeTurns,
-    /// How often a length decided on the rule of a crossing there.
-    pub lengths: ByLength,
+    /// What was crossed there by a rule that length and y0 decided.
+    pub crossed: Crossed,
 }
 
 impl Reply {
@@ -42,7 +42,7 @@ impl Reply {
             content: Content::Zeros,
             panic: None,
             whole_turns: WholeTurns::default(),
-            lengths: ByLength::default(),
+            crossed: Crossed::default(),
         }
     }
 
