@@ -254,6 +254,9 @@ fn exchanged(text: &str, name: &str, branches: &Branches) -> Result<String, Stri
     });
     let [before, one, other, after] =
         parted.ok_or(format!("{name} does not have `{second}` after `{first}`"))?;
+    if [one, other].iter().any(|part| part.contains("\n    }")) {
+        return Err(format!("{name} has a branch more beside `{second}`"));
+    }
     Ok([before, second, other, "} else ", first, one, next, after].concat())
 }
 

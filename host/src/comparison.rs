@@ -104,7 +104,7 @@ impl Comparison {
             total: Tally::default(),
             outcomes: Outcomes::default(),
             turns: Turns::default(),
-            limits: Limits::new(),
+            limits: Limits::default(),
             geometry: Geometry::default(),
             unknown_slots: 0,
             files: 0,

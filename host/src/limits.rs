@@ -1,4 +1,4 @@
-//! Document 02, asks 5 and 6: how long the arcs and pieces were, and how near-meridian, that decided on the rule of a crossing.
+//! Document 02, asks 5 and 6: how long, and how near-meridian, the arcs and pieces were that were crossed.
 
 use crate::outcomes::print_row;
 use crate::reference::{CROSSED, LENGTHS};
@@ -15,6 +15,7 @@ const LENGTH_NAMES: [&str; LENGTHS.len() + 1] = [
     "more",
 ];
 
+/// The same of the sides of both limits: |y0| at most 1e-14, and below one arcsecond.
 const SIDE_NAMES: [&str; 4] = ["both", "y0 alone", "short alone", "neither"];
 
 /// How often each that is crossed was of each sort.
@@ -74,14 +75,16 @@ pub struct Limits {
     sides: Table<4>,
 }
 
-impl Limits {
-    pub fn new() -> Self {
+impl Default for Limits {
+    fn default() -> Self {
         Limits {
             lengths: Table::new(LENGTH_NAMES),
             sides: Table::new(SIDE_NAMES),
         }
     }
+}
 
+impl Limits {
     pub fn count(&mut self, reply: &Reply) {
         self.lengths.count(&reply.crossed.lengths);
         self.sides.count(&reply.crossed.sides);
@@ -100,7 +103,7 @@ impl Limits {
 
     pub fn print(&self) {
         self.lengths.print("crossed by the rule for a length");
-        self.sides.print("about both limits, and within");
+        self.sides.print("about both limits: within which");
     }
 
     /// What is due and was never seen.

@@ -50,7 +50,7 @@ pub const LENGTHS: [f64; 6] = [
 ];
 /// Document 02, ask 6: "|y0| at most 1e-14".
 const NEAR_MERIDIAN: f64 = 1e-14;
-/// What is crossed by a rule that length and y0 have decided.
+/// What is crossed, by a rule that length and y0 have decided.
 pub const CROSSED: [&str; 4] = [
     "splits",
     "pieces in the equator",
@@ -61,12 +61,12 @@ const SPLITS: usize = 0;
 const EQUATOR_PIECES: usize = 1;
 const CAP_PIECES: usize = 2;
 pub const PARALLELS: usize = 3;
-/// How often each was crossed by such a rule.
+/// How often each was crossed.
 #[derive(Clone, Copy, Debug, Default)]
 pub struct Crossed {
-    /// By length.
+    /// By length, where it was not near-meridian.
     pub lengths: [[u32; LENGTHS.len() + 1]; CROSSED.len()],
-    /// Of those within ten times of both limits: near-meridian and short, near-meridian alone, short alone, neither.
+    /// About both limits, from a tenth to ten times of each: near-meridian and short, near-meridian alone, short alone, neither.
     pub sides: [[u32; 4]; CROSSED.len()],
 }
 
@@ -190,14 +190,20 @@ pub fn count_arc(crossed: usize) {
         let Some([length, y0]) = work.arc.take() else {
             return;
         };
-        let place = LENGTHS.partition_point(|least| *least <= length);
-        work.crossed.lengths[crossed][place] += 1;
-        let about_one = (0.1 * SHORT_LIMIT..10.0 * SHORT_LIMIT).contains(&length);
-        if about_one && y0 <= 10.0 * NEAR_MERIDIAN {
-            let sides = [y0 > NEAR_MERIDIAN, length >= SHORT_LIMIT].map(usize::from);
-            work.crossed.sides[crossed][2 * sides[0] + sides[1]] += 1;
+        let near = y0 <= NEAR_MERIDIAN;
+        if !near {
+            let place = LENGTHS.partition_point(|least| *least <= length);
+            work.crossed.lengths[crossed][place] += 1;
+        }
+        if is_about(NEAR_MERIDIAN, y0) && is_about(SHORT_LIMIT, length) {
+            let [beside, longer] = [!near, length >= SHORT_LIMIT].map(usize::from);
+            work.crossed.sides[crossed][2 * beside + longer] += 1;
         }
     });
+}
+
+fn is_about(limit: f64, x: f64) -> bool {
+    (0.1 * limit..=10.0 * limit).contains(&x)
 }
 
 /// Called where one of the longitude functions has come to 2π, with the vector's y.

@@ -16,8 +16,8 @@ use std::fmt;
 
 const SEED: u64 = 0x5374_6F72;
 const FILES: usize = 2_200;
-/// At least so many of each kind in each slot, of whole turns in either longitude function, of longitudes −0, of each length that decides on a rule and
-/// of each event of two arcs, and at most so many jobs tried for them.
+/// At least so many of each kind in each slot, of whole turns in either longitude function, of longitudes −0, of each length that decides on a rule, of
+/// each side of both limits and of each event of two arcs, and at most so many jobs tried for them.
 const OF_A_KIND: u64 = 4;
 /// So many of each class of two arcs.
 const OF_TWO_ARCS: usize = 6;
@@ -47,7 +47,7 @@ pub fn make() -> Result<Stored, String> {
         files: 0,
         outcomes: Outcomes::default(),
         turns: Turns::default(),
-        limits: Limits::new(),
+        limits: Limits::default(),
         crossings: Crossings::default(),
         maker: Maker::new(SEED),
     };

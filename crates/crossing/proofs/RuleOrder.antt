@@ -25,7 +25,10 @@ module _ (arc : GreatArc) where
 
   both_hold : (n s : Bool) → Near n → Short s → may_change arc ≡ (n && s)
   unfolding Near Short may_change
-  both_hold n s near short = simp (near, short) refl
+  both_hold true true near short = simp (near, short) refl
+  both_hold true false near short = simp (near, short) refl
+  both_hold false true near short = simp (near, short) refl
+  both_hold false false near short = simp (near, short) refl
 
   same_rule : (n s : Bool) → Near n → Short s → may_change arc ≡ false → rule_of arc ≡ rule_before arc
   unfolding Near Short rule_of rule_before

@@ -1,5 +1,6 @@
 -- Document 02, ask 6: "Short arcs shall now be tested first. The answers that may change are crossings with |y0| at most 1e-14 and an angular distance below one
--- arcsecond, and the slots of arcs that use such a crossing." Definitions, a claim and examples; `proofs/RuleOrder.antt` proves them.
+-- arcsecond, and the slots of arcs that use such a crossing." Definitions, a claim and examples; `proofs/RuleOrder.antt` proves the claim and the
+-- examples.
 use Rattle.std.specs.Float.{binary64}
 use Rattle.std.specs.Prelude.{Float, Bool, true, false, cond, ◌&&◌, ◌≡◌, Ok, Err, from_bits}
 use Rattle.std.specs.Float.Ieee.{neg, lt, le}
@@ -32,7 +33,7 @@ pub record RuleOrder : Type 0 where
   pub short_now : (arc : GreatArc) → may_change arc ≡ true → rule_of arc ≡ ShortArc
   pub near_meridian_before : (arc : GreatArc) → may_change arc ≡ true → rule_before arc ≡ NearMeridian
 
--- Arcs by longitude and latitude of their ends, along the meridians of 0 and of 90 degrees: from the equator to latitude π/4 and to a millionth, and 0.99 arcseconds over −T.
+-- Arcs by longitude and latitude of their ends, along the meridians of 0 and of 90 degrees: from the equator to latitude π/4 and to a millionth of a radian, and 0.99 arcseconds over −T.
 abbrev pub arc_of : Float → Float → Float → Float → GreatArc
 arc_of lon1 lat1 lon2 lat2 = great_arc (vec3_of lon1 lat1) (vec3_of lon2 lat2)
 

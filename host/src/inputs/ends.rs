@@ -46,7 +46,7 @@ pub const CLASSES: [Class<Ends>; 29] = [
 ];
 
 /// Lost points, panics and other arcs that every long run looks at.
-const KEPT: [Ends; 15] = [
+const KEPT: [Ends; 22] = [
     // Document 01: the cross product is zero, status 10.
     [0.0, 0.8, PI, -0.8],
     // An edge of 13 degrees over longitude 0: the piece before it has a special point, and is not looked at.
@@ -144,6 +144,50 @@ const KEPT: [Ends; 15] = [
         1.0236653468532058,
         3.1960199840516066,
         0.894857053325069,
+    ],
+    // Short and near-meridian together. With the near-meridian rule first: kind 5, now 3; status 10, now 0; two whose point has moved, and one whose point has not; kind
+    // 1, now 3; kind 3, now 1.
+    [
+        1.3469751312783713,
+        -0.20277757748692687,
+        1.3469787116684284,
+        -0.20277447478290958,
+    ],
+    [
+        1.5707963267948966,
+        -0.7297276562269666,
+        1.5707963267948966,
+        -0.729722856256422,
+    ],
+    [
+        1.1979580663138278,
+        0.40328799376580643,
+        1.197957550732241,
+        0.40328846957654135,
+    ],
+    [
+        5.123817391144501,
+        0.7297243534662465,
+        5.123820907599753,
+        0.7297283580722869,
+    ],
+    [
+        4.71209442236714,
+        -0.0002500286362423794,
+        4.712091215095762,
+        -0.0002527510528239878,
+    ],
+    [
+        1.159366839177916,
+        0.7297255702192154,
+        1.159363326780854,
+        0.7297295701930684,
+    ],
+    [
+        1.982227155737799,
+        0.7297240006347232,
+        1.9822306837514885,
+        0.7297280183768509,
     ],
 ];
 

@@ -18,7 +18,7 @@ const THROUGH: [Draw; 3] = [point_in_eqr, point_in_cap, |random| {
     ([any_lon(random), lat], any_lon(random))
 }];
 
-/// The same in planes that the y axis lies in, or nearly: along the meridians of 90 and 270 degrees over T, and through a special point of the equator.
+/// The same in planes that the y axis lies in, or nearly: along the meridians of 90 and 270 degrees over −T or T, and through a special point in the equator.
 const BESIDE_Y_AXIS: [Draw; 2] = [along_meridian, special_in_plane_of_y];
 
 /// Ends whose distance comes to exactly one arcsecond, found by trying some thousand to some million arcs for each: three about a special point in the
@@ -80,14 +80,14 @@ const AT_LIMIT: [Ends; 9] = [
     ],
 ];
 
-/// About both limits in a cap, where such a plane has special points only within a minute of the pole, and by rounding: found by trying some thousand arcs
-/// for each. The first two are near-meridian and short, the next two near-meridian alone, then two short alone, and two neither.
+/// About both limits in a cap, where arcs in such planes seldom have a special point, and close to the pole: found within an arcminute of it by trying some
+/// thousand arcs for each. The first two are near-meridian and short, the next two near-meridian alone, then two short alone, and two neither.
 const BESIDE_POLE: [Ends; 8] = [
     [
-        4.712388943544699,
-        1.570782698272831,
-        4.712388923517297,
-        1.570787497928274,
+        4.712385701541809,
+        -1.5707389755087007,
+        4.712385954753034,
+        -1.5707341758532576,
     ],
     [
         1.5707965717374541,
@@ -96,10 +96,10 @@ const BESIDE_POLE: [Ends; 8] = [
         -1.570634284225758,
     ],
     [
-        4.712389375169325,
-        1.5707842932998426,
-        4.712389646031448,
-        1.5707891899180217,
+        4.712390077279827,
+        1.5707263955337523,
+        4.712390159867759,
+        1.5707312921519314,
     ],
     [
         1.5707961695082056,
@@ -140,8 +140,8 @@ fn lon_of_y_axis(random: &mut Random) -> f64 {
 }
 
 fn along_meridian(random: &mut Random) -> (Point, f64) {
-    let lat = random.signed(transition_latitude());
-    ([lon_of_y_axis(random), lat], 0.0)
+    let lat = random.nudged(transition_latitude());
+    ([lon_of_y_axis(random), random.signed(lat)], 0.0)
 }
 
 /// Where an arc in a plane with the y axis has its special direction, close to that axis or to T: there dz/dlon is −tan(lon) z (1 − z²).
@@ -159,14 +159,12 @@ fn special_in_plane_of_y(random: &mut Random) -> (Point, f64) {
     ([lon_of_y_axis(random) + off, lat], bearing)
 }
 
-/// Through a point that one of these draws, or from it, of this length.
-fn of_length(random: &mut Random, draws: &[Draw], length: f64) -> Ends {
+/// Through a point that one of these draws, of this length, so much of it before the point.
+fn of_length(random: &mut Random, draws: &[Draw], length: f64, before: f64) -> Ends {
     let (point, bearing) = random.one_of(draws)(random);
-    let back = random.between(0.0, length);
-    let back = random.one_of(&[0.0, back, back, length]);
     joined(
-        towards(point, bearing, -back),
-        towards(point, bearing, length - back),
+        towards(point, bearing, -before),
+        towards(point, bearing, length - before),
     )
 }
 
@@ -178,22 +176,26 @@ fn length_about_limit(random: &mut Random) -> f64 {
 
 pub fn about_limit(random: &mut Random) -> Ends {
     let length = length_about_limit(random);
-    of_length(random, &THROUGH, length)
+    let before = random.between(0.0, length);
+    of_length(random, &THROUGH, length, before)
 }
 
-/// Where |y0| is about 1e-14 too.
+/// Where |y0| is about 1e-14 too. From the point itself or up to it rounding decides whether there is a crossing.
 pub fn about_both_limits(random: &mut Random) -> Ends {
     if random.below(4) == 0 {
         return one_nudged(random, &BESIDE_POLE);
     }
     let length = length_about_limit(random);
-    of_length(random, &BESIDE_Y_AXIS, length)
+    let within = random.between(0.0, length);
+    let before = random.one_of(&[0.0, within, within, length]);
+    of_length(random, &BESIDE_Y_AXIS, length, before)
 }
 
 /// From a quarter of a degree to the source's limit, 0.91 degrees.
 pub fn no_longer_flat(random: &mut Random) -> Ends {
     let length = random.between(QUARTER_DEGREE, OLD_SHORT_LIMIT);
-    of_length(random, &THROUGH, length)
+    let before = random.between(0.0, length);
+    of_length(random, &THROUGH, length, before)
 }
 
 /// Of exactly one arcsecond as the finder works it out, or next to that.
