@@ -102,13 +102,13 @@ impl Limits {
     }
 
     pub fn print(&self) {
-        self.lengths.print("crossed by the rule for a length");
+        self.lengths.print("not near-meridian, by length");
         self.sides.print("about both limits: within which");
     }
 
     /// What is due and was never seen.
     pub fn missing(&self) -> Vec<String> {
-        let lengths = self.lengths.missing("of the length");
+        let lengths = self.lengths.missing("not near-meridian, of the length");
         [lengths, self.sides.missing("about both limits, within")].concat()
     }
 }

@@ -49,7 +49,7 @@ short_alone = arc_of plus_zero plus_zero plus_zero (from_bits binary64 0x3eb0_c6
 abbrev pub both : GreatArc
 both = arc_of half_pi (from_bits binary64 0xbfe7_59ed_d04f_68e0) half_pi (from_bits binary64 0xbfe7_59e3_bf58_7b38)
 
--- Where both hold, neither root passed for the crossing with −T, and the arc could not be split.
+-- The rule for each arc. For `both` neither root passed at −T until then, so that the arc could not be split.
 pub record RuleOrderExamples : Type 0 where
   pub neither_holds : may_change neither ≡ false
   pub neither_rule : rule_of neither ≡ Quadratic
