@@ -10,7 +10,10 @@ static const size_t widths[FINDER_CODES] = {
 };
 static const char *const names[FINDER_CODES] = {"end", "precision", "allowance", "arc", "equatorial cone", "polar cone", "parallel", "two arcs"};
 static const char *const slots[FINDER_SLOTS] = {"south cap, first", "south cap, second", "equator", "north cap, first", "north cap, second"};
-static const char *const kinds[] = {"no such piece", "no walk", "height rejected", "found", "height not between the ends", "neither root passes"};
+static const char *const kinds[FINDER_KINDS] = {
+    "no such piece",       "no walk",          "height rejected", "found", "height not between the ends",
+    "neither root passes", "found by halving", "not found by halving",
+};
 /* From 0 on: refusals of files, then of commands, none of which has the number 11. */
 static const char *const reasons[] = {
     "accepted",
@@ -46,15 +49,15 @@ static void say_arc(const uint8_t *answer)
         const uint8_t *slot = answer + place * FINDER_SLOT_BYTES;
         if (slot[0] == FINDER_KIND_NO_PIECE)
             continue;
-        printf("\n    %s: %s, %d steps", slots[place], kinds[slot[0]], slot[1]);
-        if (slot[0] == FINDER_KIND_FOUND)
+        printf("\n    %s: %s, %d steps walked", slots[place], kinds[slot[0]], slot[1]);
+        if (slot[0] == FINDER_KIND_FOUND || slot[0] == FINDER_KIND_FOUND_BY_HALVING)
             say_point(slot + 2);
     }
 }
 
 static void say_cone(const uint8_t *answer)
 {
-    printf("\n    %s, %d steps", kinds[answer[0]], answer[1]);
+    printf("\n    %s, %d steps walked", kinds[answer[0]], answer[1]);
     if (answer[0] == FINDER_KIND_FOUND)
         printf(", height %.12f", float_at(answer + 2));
 }

@@ -34,8 +34,8 @@
 #include <stdint.h>
 
 /*
- * The stack of a call. Measured, not proved: the comparison of job files has met at most 5,360 bytes, return address included, and the longest chain
- * of calls has 5,368 by the sizes of the frames; here is half as much again. A dynamic linker that looks `memset` up at its first call
+ * The stack of a call. Measured, not proved: the comparison of job files has met at most 5,376 bytes, return address included, and the longest chain
+ * of calls has 5,384 by the sizes of the frames; here is half as much again. A dynamic linker that looks `memset` up at its first call
  * takes a part of this stack too (no more in all where it was tried); linked statically or with -z now there is no such look-up.
  */
 #define FINDER_STACK_BYTES 8192
@@ -113,16 +113,23 @@
 #define FINDER_STATUS_NO_CANDIDATE 12 /* the cross product of two arcs' cross products has norm zero or NaN */
 
 /*
- * The kind of a slot, a cone's answer, a parallel's or that for two arcs. Longitude, latitude and a cone's z stand at FINDER_KIND_FOUND only, the
- * steps of the walk at the kinds from 2 on in a slot or a cone's answer; all else is zero. A longitude is at least 0 and below 2 pi,
- * 6.283185307179586, or a NaN; it may be -0. A NaN is written 7FF8000000000000.
+ * The kind of a slot, a cone's answer, a parallel's or that for two arcs. Longitude and latitude stand at FINDER_KIND_FOUND and at
+ * FINDER_KIND_FOUND_BY_HALVING, a cone's z at FINDER_KIND_FOUND, the steps of the walk at the kinds from 2 on in a slot or a cone's answer; all else
+ * is zero. A longitude is at least 0 and below 2 pi, 6.283185307179586, or a NaN; it may be -0. A NaN is written 7FF8000000000000.
+ *
+ * FINDER_SLOT_EQUATOR never has FINDER_KIND_REJECTED: a second try follows there, and gives one of the last two kinds, which no other slot or answer
+ * has. Its halvings are no steps. A point by halving is a special point of the arc but where the arc begins or ends at the highest or lowest point
+ * of its circle, or runs along the equator: then it may be any point beside that end, or on the arc.
  */
-#define FINDER_KIND_NO_PIECE 0    /* the arc has no such piece */
-#define FINDER_KIND_NO_WALK 1     /* longitudes equal or signs the same, no walk */
-#define FINDER_KIND_REJECTED 2    /* the height is rejected after the walk */
-#define FINDER_KIND_FOUND 3       /* a point */
-#define FINDER_KIND_NOT_BETWEEN 4 /* the height is not strictly between the ends */
-#define FINDER_KIND_NO_ROOT 5     /* neither root passes the tests; of two arcs: neither candidate does */
+#define FINDER_KIND_NO_PIECE 0         /* the arc has no such piece */
+#define FINDER_KIND_NO_WALK 1          /* longitudes equal or signs the same, no walk */
+#define FINDER_KIND_REJECTED 2         /* the height is rejected after the walk */
+#define FINDER_KIND_FOUND 3            /* a point */
+#define FINDER_KIND_NOT_BETWEEN 4      /* the height is not strictly between the ends */
+#define FINDER_KIND_NO_ROOT 5          /* neither root passes the tests; of two arcs: neither candidate does */
+#define FINDER_KIND_FOUND_BY_HALVING 6 /* the height is rejected after the walk, and 60 halvings have led to a point */
+#define FINDER_KIND_NONE_BY_HALVING 7  /* the same, and they have not */
+#define FINDER_KINDS 8
 
 /* The slots of an arc's answer, in their order. A slot is kind, steps (one byte each), lon, lat (f64). */
 #define FINDER_SLOT_SOUTH_FIRST 0

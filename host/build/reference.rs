@@ -82,7 +82,12 @@ const RULE_BRANCHES: Branches = Branches {
     next: "} else {\n      let x0_y0 = x0 / y0;",
 };
 
-// From here on: calls of src/reference.rs. They change nothing of what is worked out.
+/// What document 02's rule of ask 7 takes of the reference is made public. This changes nothing of what is worked out, nor do the calls of
+/// src/reference.rs, from here on.
+const SECOND_TRY_EDITS: [Edit; 2] = [
+    edit(1, "\nfn f_eqr(", "\npub fn f_eqr("),
+    edit(1, "\nfn have_same_sign(", "\npub fn have_same_sign("),
+];
 
 const COO3D_CALLS: [Edit; 5] = [
     edit(
@@ -120,7 +125,7 @@ const FINDER_CALLS: [Edit; 16] = [
     edit(
         1,
         "let cone_center = cross_product(p1, p2).normalized();",
-        "super::equator_begins(); let cone_center = cross_product(p1, p2).normalized();",
+        "super::equator_begins(p1, p2); let cone_center = cross_product(p1, p2).normalized();",
     ),
     edit(
         1,
@@ -208,7 +213,7 @@ fn write(folder: &Path, name: &str, [in_coo3d, in_finder]: [&[Edit]; 2]) -> Resu
     let finder = read(folder, FINDER)?;
     let finder = edited(finder, FINDER, &[&FINDER_EDITS, &SHORT_ARC_EDITS])?;
     let finder = exchanged(&finder, FINDER, &RULE_BRANCHES)?;
-    let finder = edited(finder, FINDER, &[in_finder])?;
+    let finder = edited(finder, FINDER, &[&SECOND_TRY_EDITS, in_finder])?;
     let mut text = String::new();
     for start in LIB_ITEMS {
         text += &item(&lib, start)?;

@@ -12,8 +12,9 @@ use crate::inputs::{two_arcs, BESIDE_LONGITUDE_0, TWO_ARCS};
 use crate::job_files::{self, Maker};
 use crate::limits::Limits;
 use crate::outcomes::{print_row, Outcomes};
-use crate::reference::{self, Panic};
+use crate::reference::{self, Panic, Slot};
 use crate::rules::{self, Answer, Content, Reply};
+use crate::second_tries::SecondTries;
 use crate::turns::Turns;
 use depends::Depends;
 use geometry::Geometry;
@@ -66,8 +67,8 @@ impl Tally {
 fn has_point(content: &Content) -> bool {
     match content {
         Content::Zeros => false,
-        Content::Slots(slots) => slots.iter().flatten().any(|slot| slot.kind == 3),
-        Content::Height(slot) | Content::Crossing(slot) => slot.kind == 3,
+        Content::Slots(slots) => slots.iter().flatten().any(Slot::has_point),
+        Content::Height(slot) | Content::Crossing(slot) => slot.has_point(),
     }
 }
 
@@ -82,6 +83,7 @@ struct Comparison {
     outcomes: Outcomes,
     turns: Turns,
     limits: Limits,
+    second_tries: SecondTries,
     geometry: Geometry,
     /// Slots that the reference did not come to.
     unknown_slots: u64,
@@ -105,6 +107,7 @@ impl Comparison {
             outcomes: Outcomes::default(),
             turns: Turns::default(),
             limits: Limits::default(),
+            second_tries: SecondTries::default(),
             geometry: Geometry::default(),
             unknown_slots: 0,
             files: 0,
@@ -165,6 +168,7 @@ impl Comparison {
             self.unknown_slots += reply.unknown_slots() as u64;
             self.turns.count(reply);
             self.limits.count(reply);
+            self.second_tries.count(reply);
             if let Some(difference) = difference {
                 differs = true;
                 self.show(job, buffer, &format!("{}: {difference}", reply.command));
@@ -264,6 +268,7 @@ impl Comparison {
         self.outcomes.print();
         self.turns.print();
         self.limits.print();
+        self.second_tries.print();
         self.total.crossings.print();
         self.geometry.print();
         print_row(
@@ -306,6 +311,7 @@ impl Comparison {
             self.outcomes.missing(),
             turns,
             self.limits.missing(),
+            self.second_tries.missing(),
             self.depends.missing(),
         ];
         [others.concat(), crossings.concat()].concat()

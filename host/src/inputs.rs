@@ -4,6 +4,7 @@ pub mod cones;
 pub mod ends;
 mod operands;
 pub mod parallels;
+mod second_try;
 mod short;
 pub mod two_arcs;
 
@@ -130,6 +131,11 @@ pub fn short_arc(random: &mut Random) -> Command {
     } else {
         parallels::short_arc(random)
     }
+}
+
+/// An arc that is often tried a second time.
+pub fn tried_again(random: &mut Random) -> Command {
+    arc(random, second_try::any)
 }
 
 /// An arc between two ends, in either order.

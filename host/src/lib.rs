@@ -31,6 +31,8 @@ pub mod random;
 pub mod reference;
 #[cfg(reference)]
 pub mod rules;
+#[cfg(reference)]
+pub mod second_tries;
 pub mod squares;
 #[cfg(reference)]
 pub mod stored_answers;

@@ -22,7 +22,7 @@ const ROWS: [&str; 9] = [
 const KINDS: [&[usize]; ROWS.len()] = [
     &[0, 1, 2, 3, 4, 5],
     &[0, 1, 2, 3, 4, 5],
-    &[0, 1, 2, 3, 4, 5],
+    &[0, 1, 3, 4, 5, 6, 7],
     &[0, 1, 2, 3, 4, 5],
     &[0, 1, 2, 3, 4, 5],
     &[2, 3],
@@ -44,7 +44,7 @@ const STATUSES: [(u8, &[u8]); 7] = [
 
 #[derive(Default)]
 pub struct Outcomes {
-    kinds: [[u64; 6]; ROWS.len()],
+    kinds: [[u64; 8]; ROWS.len()],
     /// By code and status.
     statuses: [[u64; 13]; 8],
     /// Files by their number.
@@ -105,7 +105,10 @@ impl Outcomes {
     }
 
     pub fn print(&self) {
-        print_row("", [0, 1, 2, 3, 4, 5].map(|kind| format!("kind {kind}")));
+        print_row(
+            "",
+            [0, 1, 2, 3, 4, 5, 6, 7].map(|kind| format!("kind {kind}")),
+        );
         for (name, counts) in ROWS.iter().zip(self.kinds) {
             print_row(name, counts);
         }

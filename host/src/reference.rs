@@ -5,6 +5,8 @@ const _: () = assert!(!cfg!(debug_assertions));
 
 include!(concat!(env!("OUT_DIR"), "/reference.rs"));
 
+#[path = "rules/second_try.rs"]
+pub mod second_try;
 #[path = "rules/two_arcs.rs"]
 pub mod two_arcs;
 
@@ -80,10 +82,23 @@ pub struct Slot {
     pub point: [u64; 2],
 }
 
+impl Slot {
+    /// Whether its kind is one of those at which a point stands, that of document 02's second try included.
+    pub fn has_point(&self) -> bool {
+        [3, FOUND_BY_HALVING].contains(&self.kind)
+    }
+}
+
+/// Document 02, ask 7: "kind 6 with its longitude and latitude if found, 7 and zeros if not".
+pub const FOUND_BY_HALVING: u8 = 6;
+pub const NONE_BY_HALVING: u8 = 7;
+
 /// The reference's work on the five slots of an arc. A cone's walk is told as the first slot's.
-#[derive(Clone, Copy, Debug)]
+#[derive(Clone, Debug)]
 pub struct Work {
     pub slots: [Slot; 5],
+    /// The ends of the piece in the equator, in the source's order.
+    pub in_equator: Option<[Coo3D; 2]>,
     /// The slots in the order in which they are worked out.
     pub order: [usize; 5],
     /// The slot that was worked on last.
@@ -102,6 +117,7 @@ const NO_WORK: Work = Work {
         steps: 0,
         point: [0; 2],
     }; 5],
+    in_equator: None,
     order: [0, 1, 2, 3, 4],
     at: 0,
     whole_turns: [[0; SIZES_OF_Y.len() + 1]; LONGITUDES.len()],
@@ -145,8 +161,11 @@ fn piece_begins(place: usize) {
     note_slot(|slot| slot.kind = 1);
 }
 
-fn equator_begins() {
-    note(|work| work.region = EQUATOR);
+fn equator_begins(p1: &Coo3D, p2: &Coo3D) {
+    note(|work| {
+        work.region = EQUATOR;
+        work.in_equator = Some([p1.clone(), p2.clone()]);
+    });
     piece_begins(FIRST);
 }
 
@@ -267,6 +286,13 @@ pub struct Watched<T> {
 pub fn watch<T>(work: impl FnOnce() -> T + panic::UnwindSafe) -> Watched<T> {
     WORK.replace(NO_WORK);
     SIZES.with_borrow_mut(Vec::clear);
+    let result = caught(work);
+    let work = WORK.with_borrow(Work::clone);
+    Watched { result, work }
+}
+
+/// The same for what is no work of the reference's own: what was seen and the sizes of the steps under the last `watch` stay.
+pub fn caught<T>(work: impl FnOnce() -> T + panic::UnwindSafe) -> Result<T, Panic> {
     WATCHED.set(true);
     let result =
         panic::catch_unwind(work).map_err(|payload| match payload.downcast_ref::<&str>() {
@@ -275,8 +301,7 @@ pub fn watch<T>(work: impl FnOnce() -> T + panic::UnwindSafe) -> Watched<T> {
             _ => Panic::Other,
         });
     WATCHED.set(false);
-    let work = WORK.with_borrow(Work::clone);
-    Watched { result, work }
+    result
 }
 
 /// The sizes of all steps made under the last `watch`.
@@ -284,7 +309,7 @@ pub fn step_sizes() -> Vec<f64> {
     SIZES.with_borrow(Vec::clone)
 }
 
-/// From here on a panic under `watch` prints nothing.
+/// From here on a panic under `watch` or `caught` prints nothing.
 pub fn silence_watched_panics() {
     let usual = panic::take_hook();
     panic::set_hook(Box::new(move |info| {

@@ -5,6 +5,7 @@ mod arc;
 mod others;
 mod reply;
 
+pub use arc::lower_first;
 pub use reply::{Content, Reply};
 
 use crate::commands::{

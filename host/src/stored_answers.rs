@@ -10,6 +10,7 @@ use crate::outcomes::Outcomes;
 use crate::random::{moved, Random};
 use crate::reference;
 use crate::rules::{self, Reply, Settings};
+use crate::second_tries::SecondTries;
 use crate::turns::Turns;
 use std::f64::consts::PI;
 use std::fmt;
@@ -17,7 +18,7 @@ use std::fmt;
 const SEED: u64 = 0x5374_6F72;
 const FILES: usize = 2_200;
 /// At least so many of each kind in each slot, of whole turns in either longitude function, of longitudes −0, of each length that decides on a rule, of
-/// each side of both limits and of each event of two arcs, and at most so many jobs tried for them.
+/// each side of both limits and of each event of second tries and of two arcs, and at most so many jobs tried for them.
 const OF_A_KIND: u64 = 4;
 /// So many of each class of two arcs.
 const OF_TWO_ARCS: usize = 6;
@@ -35,6 +36,7 @@ pub struct Stored {
     outcomes: Outcomes,
     turns: Turns,
     limits: Limits,
+    second_tries: SecondTries,
     crossings: Crossings,
     maker: Maker,
 }
@@ -48,6 +50,7 @@ pub fn make() -> Result<Stored, String> {
         outcomes: Outcomes::default(),
         turns: Turns::default(),
         limits: Limits::default(),
+        second_tries: SecondTries::default(),
         crossings: Crossings::default(),
         maker: Maker::new(SEED),
     };
@@ -68,6 +71,11 @@ pub fn make() -> Result<Stored, String> {
         |it| it.limits.least(),
         |it, reply| it.limits.least_of(reply),
     );
+    stored.add_until(
+        inputs::tried_again,
+        |it| it.second_tries.least(),
+        |it, reply| it.second_tries.least_of(reply),
+    );
     stored.add_two_arcs();
     stored.add_until(
         two_arcs::any,
@@ -78,6 +86,7 @@ pub fn make() -> Result<Stored, String> {
     let mut missing = [
         stored.outcomes.missing(),
         stored.limits.missing(),
+        stored.second_tries.missing(),
         stored.crossings.missing(),
     ]
     .concat();
@@ -113,6 +122,7 @@ impl Stored {
             self.outcomes.count(&replies[at..]);
             self.turns.count(reply);
             self.limits.count(reply);
+            self.second_tries.count(reply);
             self.crossings.count(reply);
         }
         let number = usize::from(answer.number);

@@ -5,7 +5,7 @@ use Rattle.coo3d.specs.LonLats.{lon_lat_of}
 use Rattle.crossing.specs.Parallels.{Crossing}
 use Rattle.crossing.specs.declared.parallel.NoCrossing.TheVariants as crossing
 use Rattle.answers.specs.declared.answer.Answer.{Answer}
-use Rattle.answers.specs.declared.answer.Answer.TheVariants.{NoPiece, NoWalk, Rejected, Found, Height, NotBetween, NoRoot}
+use Rattle.answers.specs.declared.answer.Answer.TheVariants.{NoPiece, NoWalk, Rejected, Found, Height, NotBetween, NoRoot, FoundByHalving, NoneByHalving}
 use Rattle.answers.specs.declared.answer.Slot.{Slot}
 
 abbrev pub slot_of : ℕ → Answer → Slot
@@ -29,7 +29,8 @@ unfoldable pub kind_alone : ℕ → Numbers
 kind_alone k = numbers k plus_zero plus_zero
 
 -- 0 no such piece; 1 longitudes equal or signs the same, no walk; 2 height rejected after the walk; 3 found; 4 height not strictly between
--- the ends; 5 neither root passes, of two arcs neither candidate (document 02, ask 3). Longitude, latitude and a cone's z stand at kind 3 only
+-- the ends; 5 neither root passes, of two arcs neither candidate (document 02, ask 3); 6 found on a second try, 7 not found on it (document 02, ask 7).
+-- A cone's z stands at kind 3 only, longitude and latitude at 3 and 6 only
 unfoldable pub numbers_of : Answer → Numbers
 numbers_of NoPiece = kind_alone 0
 numbers_of NoWalk = kind_alone 1
@@ -38,9 +39,16 @@ numbers_of (Found lon lat) = numbers 3 lon lat
 numbers_of (Height z) = numbers 3 z plus_zero
 numbers_of NotBetween = kind_alone 4
 numbers_of NoRoot = kind_alone 5
+numbers_of (FoundByHalving lon lat) = numbers 6 lon lat
+numbers_of NoneByHalving = kind_alone 7
 
 -- a crossing's answer: a vector is replied through `UnitVect3::lonlat`
 unfoldable pub crossed_of : Crossing → Answer
 crossed_of (Ok v) = let p = lon_lat_of v.x v.y v.z in Found p.lon p.lat
 crossed_of (Err crossing.NotBetween) = NotBetween
 crossed_of (Err crossing.NoRoot) = NoRoot
+
+-- document 02, ask 7, of a crossing's answer: "kind 6 with its longitude and latitude if found, 7 and zeros if not"
+unfoldable pub second_try_of : Answer → Answer
+second_try_of (Found lon lat) = FoundByHalving lon lat
+second_try_of a = NoneByHalving

@@ -32,6 +32,8 @@ fn put_slot(slot: Slot, out: &mut [u8])
         Answer::Height { z } => put_walked(out, 3, steps, z, 0.0),
         Answer::NotBetween => put_walked(out, 4, steps, 0.0, 0.0),
         Answer::NoRoot => put_walked(out, 5, steps, 0.0, 0.0),
+        Answer::FoundByHalving { lon, lat } => put_walked(out, 6, steps, lon, lat),
+        Answer::NoneByHalving => put_walked(out, 7, steps, 0.0, 0.0),
     }
 }
 

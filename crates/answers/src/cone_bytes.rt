@@ -31,5 +31,7 @@ pub fn put_cone(slot: Slot, out: &mut [u8])
         Answer::Height { z } => put_height(out, 3, steps, z),
         Answer::NotBetween => put_height(out, 4, steps, 0.0),
         Answer::NoRoot => put_height(out, 5, steps, 0.0),
+        Answer::FoundByHalving { lon, .. } => put_height(out, 6, steps, lon),
+        Answer::NoneByHalving => put_height(out, 7, steps, 0.0),
     }
 }

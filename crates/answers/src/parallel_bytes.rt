@@ -30,5 +30,7 @@ pub fn put_crossing(answer: Answer, out: &mut [u8])
         Answer::Height { z } => put_point(out, 3, z, 0.0),
         Answer::NotBetween => put_point(out, 4, 0.0, 0.0),
         Answer::NoRoot => put_point(out, 5, 0.0, 0.0),
+        Answer::FoundByHalving { lon, lat } => put_point(out, 6, lon, lat),
+        Answer::NoneByHalving => put_point(out, 7, 0.0, 0.0),
     }
 }

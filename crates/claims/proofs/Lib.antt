@@ -3,6 +3,9 @@ pub mod TwoFiles
 pub mod EachReply
 pub mod Examples
 pub mod BothSides
+pub mod Replies
 pub mod Longitudes
+pub mod SecondTries
+pub mod SecondTryExamples
 pub mod TwoArcsReplies
 pub mod TwoArcsExamples

@@ -4,5 +4,7 @@ pub mod EachReply
 pub mod Examples
 pub mod BothSides
 pub mod Longitudes
+pub mod SecondTries
+pub mod SecondTryExamples
 pub mod TwoArcsReplies
 pub mod TwoArcsExamples

@@ -3,7 +3,7 @@
 use Rattle.std.specs.Prelude.{ℕ, List, Result, Ok, Err}
 use Rattle.coo3d.specs.LonLats.{InTurn}
 use Rattle.answers.specs.declared.answer.Answer.{Answer}
-use Rattle.answers.specs.declared.answer.Answer.TheVariants.{NoPiece, NoWalk, Rejected, Found, Height, NotBetween, NoRoot}
+use Rattle.answers.specs.declared.answer.Answer.TheVariants.{NoPiece, NoWalk, Rejected, Found, Height, NotBetween, NoRoot, FoundByHalving, NoneByHalving}
 use Rattle.table.specs.Table.{row_of}
 use Rattle.table.specs.Turns.{turn_of}
 use Rattle.table.specs.declared.state.State.{State}
@@ -20,6 +20,8 @@ FoundInTurn (Found lon lat) = InTurn lon
 FoundInTurn (Height z) = Unit
 FoundInTurn NotBetween = Unit
 FoundInTurn NoRoot = Unit
+FoundInTurn (FoundByHalving lon lat) = InTurn lon
+FoundInTurn NoneByHalving = Unit
 
 -- of each answer in a reply
 unfoldable pub RepliedInTurn : Result Reply Refusal → Type 0

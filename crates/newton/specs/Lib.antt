@@ -2,3 +2,4 @@ pub mod Slopes
 pub mod Regions
 pub mod Walks
 pub mod WalkAllowances
+pub mod Halvings

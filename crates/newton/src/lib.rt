@@ -1,7 +1,8 @@
-// The Newton-Raphson method that looks for a special point: slopes of both regions, and the one walk over either.
+// The Newton-Raphson method that looks for a special point: slopes of both regions, and the one walk over either; and halving, where a walk has failed.
 
 #![tactic(auto)]
 
+pub mod halving;
 pub mod region;
 pub mod slope;
 pub mod walk;

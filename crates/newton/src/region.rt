@@ -1,9 +1,9 @@
-// The constants of the slopes in the two regions, and the south cap seen as the north one.
+// The constants of the slopes in the two regions, the slope of an arc in the equatorial one, and the south cap seen as the north one.
 
 ghost use Rattle.std.specs.Prelude.{◌≡◌};
-ghost use Rattle.newton.specs.Regions.{cte_eqr, cte_npc, direction_of, mirrored_of};
+ghost use Rattle.newton.specs.Regions.{cte_eqr, slope_in_eqr, cte_npc, direction_of, mirrored_of};
 
-use super::slope::ONE_OVER_TRANSITION_Z;
+use super::slope::{Cone, EqrSlope, ONE_OVER_TRANSITION_Z, Slope};
 use angles::{EIGHTH_PI, QUARTER_PI};
 
 // For the north or the south point of a cone.
@@ -17,6 +17,17 @@ pub fn cte_eqr(north: bool) -> f64
     } else {
         ONE_OVER_TRANSITION_Z * QUARTER_PI
     }
+}
+
+// The slope of the great circle whose normal has the height z0.
+#[tactic(auto, unfolding(crate::specs::Regions::slope_in_eqr))]
+pub fn slope_in_eqr(z0: f64) -> Slope
+    ensures { result ≡ slope_in_eqr z0 }
+{
+    Slope::Equatorial(EqrSlope {
+        cone: Cone::new(z0, 0.0),
+        cte: cte_eqr(z0 < 0.0),
+    })
 }
 
 #[tactic(auto, unfolding(crate::specs::Regions::cte_npc))]

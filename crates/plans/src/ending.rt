@@ -1,7 +1,7 @@
 // What the height that a walk ends at is taken through.
 
 ghost use Rattle.std.specs.Prelude.{◌≡◌};
-ghost use Rattle.plans.specs.Endings.{accepted_eqr, from_end_to_end, accepted_npc, eqr_arc, pc_arc, eqr_cone, pc_cone, answer_at};
+ghost use Rattle.plans.specs.Endings.{accepted_eqr, from_end_to_end, accepted_npc, second_try, eqr_arc, pc_arc, eqr_cone, pc_cone, answer_at};
 
 use angles::float;
 use answers::answer::Answer;
@@ -9,6 +9,7 @@ use coo3d::point::Coo3D;
 use coo3d::vect3::Vect3;
 use crossing::great_arc::GreatArc;
 use crossing::parallel;
+use newton::halving::Heights;
 use newton::region;
 
 // A piece of an arc in a cap: its ends, and their heights once it is moved to the first quarter and, where it is in the south, negated.
@@ -51,6 +52,20 @@ fn accepted_npc(z: f64) -> bool
     float::is_finite(z) & (z > Coo3D::TRANSITION_Z)
 }
 
+// Document 02, ask 7, for a height that is not accepted.
+#[tactic(auto, unfolding(crate::specs::Endings::second_try))]
+fn second_try(arc: GreatArc) -> Answer
+    ensures { result ≡ second_try arc }
+{
+    let slope = region::slope_in_eqr(arc.normal.z);
+    let heights = Heights {
+        z1: arc.p1.z,
+        z2: arc.p2.z,
+    };
+    let z = heights.last_middle(slope);
+    Answer::from(arc.crossing(z)).on_second_try()
+}
+
 #[tactic(auto, unfolding(crate::specs::Endings::eqr_arc))]
 fn eqr_arc(arc: GreatArc, z: f64) -> Answer
     ensures { result ≡ eqr_arc arc z }
@@ -58,7 +73,7 @@ fn eqr_arc(arc: GreatArc, z: f64) -> Answer
     if accepted_eqr(z) & from_end_to_end(arc.p1.z, z, arc.p2.z) {
         Answer::from(arc.crossing(z))
     } else {
-        Answer::Rejected
+        second_try(arc)
     }
 }
 

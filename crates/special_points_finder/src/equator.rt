@@ -1,7 +1,7 @@
 // The special point of a piece of an arc in the equatorial region.
 
 ghost use Rattle.std.specs.Prelude.{◌≡◌};
-ghost use Rattle.special_points_finder.specs.Equator.{slope_in_eqr, arc_plan_in_eqr};
+ghost use Rattle.special_points_finder.specs.Equator.{arc_plan_in_eqr};
 ghost use Rattle.plans.specs.Plans.{slot_at};
 
 use angles::float;
@@ -9,29 +9,17 @@ use answers::answer::Slot;
 use coo3d::point::Coo3D;
 use coo3d::vect3::Vect3;
 use crossing::great_arc::GreatArc;
-use newton::slope::{Cone, EqrSlope, Slope};
 use newton::walk::Start;
 use newton::{region, slope, walk};
 use plans::ending::Ending;
 use plans::plan::{Plan, Settings};
-
-// The slope of the great circle whose normal has the height z0.
-#[tactic(auto, unfolding(crate::specs::Equator::slope_in_eqr))]
-fn slope_in_eqr(z0: f64) -> Slope
-    ensures { result ≡ slope_in_eqr z0 }
-{
-    Slope::Equatorial(EqrSlope {
-        cone: Cone::new(z0, 0.0),
-        cte: region::cte_eqr(z0 < 0.0),
-    })
-}
 
 #[tactic(auto, unfolding(crate::specs::Equator::arc_plan_in_eqr))]
 fn arc_plan_in_eqr(p1: Coo3D, p2: Coo3D, precision: f64) -> Plan
     ensures { result ≡ arc_plan_in_eqr p1 p2 precision }
 {
     let arc = GreatArc::new(Vect3::from(p1), Vect3::from(p2));
-    let s = slope_in_eqr(arc.normal.z);
+    let s = region::slope_in_eqr(arc.normal.z);
     if slope::have_same_sign(s.slope(p1.z), s.slope(p2.z)) {
         return Plan::NoWalk;
     }

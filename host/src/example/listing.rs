@@ -1,6 +1,6 @@
 //! What `finder list` must say of replies in words, worked out from the reference's.
 
-use super::words::{crossing, kind, reason, FOUND, SLOTS};
+use super::words::{crossing, kind, reason, SLOTS};
 use crate::commands::{
     Command, ALLOWANCE, ARC, EQUATORIAL_CONE, PARALLEL, POLAR_CONE, PRECISION, TWO_ARCS,
 };
@@ -75,14 +75,15 @@ fn answer(reply: &Reply) -> Vec<String> {
 fn walked(slot: &Slot) -> String {
     match slot.kind {
         1 => kind(slot).to_string(),
+        6 | 7 => format!("after a walk of {} steps {}", slot.steps, kind(slot)),
         _ => format!("{} after {} steps", kind(slot), slot.steps),
     }
 }
 
 fn at(slot: &Slot) -> String {
     let [lon, lat] = slot.point.map(f64::from_bits);
-    match slot.kind {
-        FOUND => format!(" at longitude {lon:?}, latitude {lat:?}"),
-        _ => String::new(),
+    match slot.has_point() {
+        true => format!(" at longitude {lon:?}, latitude {lat:?}"),
+        false => String::new(),
     }
 }

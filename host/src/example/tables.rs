@@ -1,7 +1,7 @@
 //! What `finder list` must say of replies as csv and as json, worked out from the reference's.
 
 use super::listing::name;
-use super::words::{crossing, kind, reason, FOUND, SLOTS};
+use super::words::{crossing, kind, reason, SLOTS};
 use crate::commands::{
     Command, ALLOWANCE, ARC, EQUATORIAL_CONE, PARALLEL, POLAR_CONE, PRECISION, TWO_ARCS,
 };
@@ -106,7 +106,7 @@ fn steps(slot: &Slot) -> Row {
 
 fn point(slot: &Slot) -> Row {
     let point = ["longitude", "latitude"].into_iter().zip(slot.point);
-    let point = point.filter(|_| slot.kind == FOUND);
+    let point = point.filter(|_| slot.has_point());
     point
         .map(|(name, bits)| (name, format!("{:?}", f64::from_bits(bits))))
         .collect()

@@ -4,7 +4,6 @@ use crate::commands::{ALLOWANCE, ARC, EQUATORIAL_CONE, PARALLEL, POLAR_CONE, PRE
 use crate::reference::Slot;
 use crate::rules::{Content, Reply};
 
-pub const FOUND: u8 = 3;
 pub const SLOTS: [&str; 5] = [
     "south cap, first",
     "south cap, second",
@@ -34,13 +33,13 @@ fn of_slot((name, slot): (&&str, &Option<Slot>)) -> String {
 }
 
 fn walked(slot: &Slot) -> String {
-    format!("{}, {} steps", kind(slot), slot.steps)
+    format!("{}, {} steps walked", kind(slot), slot.steps)
 }
 
 /// The floats of a slot that has a point.
 fn at<const N: usize>(slot: &Slot, names: [&str; N]) -> String {
     let floats = slot.point.map(f64::from_bits);
-    let floats = names.iter().zip(floats).filter(|_| slot.kind == FOUND);
+    let floats = names.iter().zip(floats).filter(|_| slot.has_point());
     floats
         .map(|(name, x)| format!(", {name} {x:.12}"))
         .collect()
@@ -64,9 +63,11 @@ pub fn kind(slot: &Slot) -> &'static str {
         0 => "no such piece",
         1 => "no walk",
         2 => "height rejected",
-        FOUND => "found",
+        3 => "found",
         4 => "height not between the ends",
         5 => "neither root passes",
+        6 => "found by halving",
+        7 => "not found by halving",
         kind => unreachable!("no words stand for kind {kind}"),
     }
 }

@@ -1,11 +1,13 @@
 //! The ends of arcs.
 
-use super::{asin, atan, cos, short, sin, Class, Ends, BESIDE_LONGITUDE_0, TRANSITION_Z};
+use super::{
+    asin, atan, cos, second_try, short, sin, Class, Ends, BESIDE_LONGITUDE_0, TRANSITION_Z,
+};
 use crate::angles::{atan2, sin_cos};
 use crate::random::{moved, ten_to, Random};
 use std::f64::consts::{FRAC_PI_2, FRAC_PI_4, PI, TAU};
 
-pub const CLASSES: [Class<Ends>; 29] = [
+pub const CLASSES: [Class<Ends>; 33] = [
     ("uniform", |random| {
         joined(on_sphere(random), on_sphere(random))
     }),
@@ -21,6 +23,13 @@ pub const CLASSES: [Class<Ends>; 29] = [
         short::about_both_limits,
     ),
     ("no longer flat", short::no_longer_flat),
+    ("far from its special point", second_try::far_from_its_point),
+    ("from the vertex of its circle", second_try::from_vertex),
+    ("along the equator", second_try::along_equator),
+    (
+        "short, special at the transition",
+        second_try::special_at_transition,
+    ),
     ("about a point in the equator", special_in_eqr),
     ("about a point in a cap", special_in_cap),
     ("about a point at a border", special_at_border),

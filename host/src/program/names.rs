@@ -122,6 +122,8 @@ pub fn outcome(code: u8, kind: u8) -> &'static str {
         (_, 4) => "height not between the ends",
         (TWO_ARCS, 5) => "no crossing found",
         (_, 5) => "neither root passes",
+        (_, 6) => "found by halving",
+        (_, 7) => "not found by halving",
         _ => unreachable!("no answer has kind {kind}"),
     }
 }

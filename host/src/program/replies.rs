@@ -35,7 +35,7 @@ pub struct Slot {
     pub kind: u8,
     /// A parallel and two arcs have no walk.
     pub steps: Option<u8>,
-    /// Where the kind is 3.
+    /// Where the kind is 3, or 6 at the equator.
     pub point: Option<Point>,
 }
 
@@ -46,6 +46,8 @@ pub enum Point {
 }
 
 const FOUND: u8 = 3;
+/// Document 02, ask 7: by a second try, after a walk whose height was rejected.
+const FOUND_BY_HALVING: u8 = 6;
 
 impl Replied {
     pub fn status(&self) -> u8 {
@@ -88,7 +90,8 @@ fn slot_of_arc(name: &'static str, slot: &[u8]) -> Slot {
 }
 
 fn point(kind: u8, floats: &[u8]) -> Option<Point> {
-    (kind == FOUND).then(|| Point::LonLat(float(floats), float(&floats[8..])))
+    let is_found = [FOUND, FOUND_BY_HALVING].contains(&kind);
+    is_found.then(|| Point::LonLat(float(floats), float(&floats[8..])))
 }
 
 fn float(bytes: &[u8]) -> f64 {

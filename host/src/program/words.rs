@@ -4,10 +4,12 @@ use super::names::{outcome, reason};
 use super::numbers;
 use super::replies::{Point, Replied, Slot};
 use super::values::{line, Angles};
+use super::wording::counted;
 
-/// Kinds of which words say more.
+/// Kinds of which words say more, or something else.
 const NO_PIECE: u8 = 0;
 const NO_WALK: u8 = 1;
+const BY_HALVING: [u8; 2] = [6, 7];
 
 pub fn of_replies(job: &[u8], replies: &[Replied], angles: Angles) -> String {
     let mut text = String::new();
@@ -42,10 +44,11 @@ fn of_reply(replied: &Replied, angles: Angles) -> Vec<String> {
 fn of_slot(code: u8, slot: &Slot, angles: Angles) -> String {
     let region = slot.name.map_or(String::new(), |name| format!("{name}: "));
     let kind = outcome(code, slot.kind);
-    let steps = match slot.steps {
-        Some(1) => " after 1 step".to_string(),
-        Some(steps) if slot.kind != NO_WALK => format!(" after {steps} steps"),
-        _ => String::new(),
+    let answer = match slot.steps.map(|steps| counted(steps.into(), "step")) {
+        // Halvings are no steps.
+        Some(steps) if BY_HALVING.contains(&slot.kind) => format!("after a walk of {steps} {kind}"),
+        Some(steps) if slot.kind != NO_WALK => format!("{kind} after {steps}"),
+        _ => kind.to_string(),
     };
     let point = match slot.point {
         Some(Point::LonLat(lon, lat)) => {
@@ -55,5 +58,5 @@ fn of_slot(code: u8, slot: &Slot, angles: Angles) -> String {
         Some(Point::Height(z)) => format!(" at height {}", numbers::shown(z.to_bits())),
         None => String::new(),
     };
-    format!("{region}{kind}{steps}{point}")
+    format!("{region}{answer}{point}")
 }

@@ -1,15 +1,15 @@
 //! The reply to an arc.
 //!
 //! Document 01: "The Rust's list is the slots of kind 3 in order, for each cap only the first of two. It panics at status 10, kind 5, and
-//! kind 4 in a cap; elsewhere kinds 0, 1, 2, 4 are its None."
+//! kind 4 in a cap; elsewhere kinds 0, 1, 2, 4 are its None." With document 02, ask 7, kinds 6 and 7 at the equator, too, are its None.
 
 use super::reply::NO_KIND;
 use super::{Content, Reply};
 use crate::commands::Command;
 use crate::pattern;
 use crate::reference::{
-    arc_special_points, intersect_parallel, watch, Coo3D, Panic, Slot, Vec3, Watched, EQUATOR,
-    TRANSITION_Z,
+    arc_special_points, caught, intersect_parallel, second_try, watch, Coo3D, Panic, Slot, Vec3,
+    Watched, EQUATOR, FOUND_BY_HALVING, NONE_BY_HALVING, TRANSITION_Z,
 };
 
 /// Longitudes and latitudes, as patterns.
@@ -27,19 +27,26 @@ pub fn reply(command: &Command, (precision, allowance): (f64, u8)) -> Reply {
         patterns.collect()
     });
     let panic = watched.result.as_ref().err().copied();
-    // The lower end first.
-    let ends = if p1.z() > p2.z() { [p2, p1] } else { [p1, p2] };
+    let ends = lower_first(command);
     if panic.is_some() && split_fails(&ends) {
         return Reply {
             panic,
             ..Reply::with_status(*command, STATUS_10)
         };
     }
+    let mut slots = slots(&watched, &ends);
+    let mut tried_again = None;
+    let piece = watched.work.in_equator;
+    if let (Some(slot @ Slot { kind: 2, .. }), Some(ends)) = (&mut slots[EQUATOR], piece) {
+        try_again(slot, &ends);
+        tried_again = Some(ends);
+    }
     Reply {
-        content: Content::Slots(slots(&watched, &ends)),
+        content: Content::Slots(slots),
         panic,
         whole_turns: watched.work.whole_turns,
         crossed: watched.work.crossed,
+        tried_again,
         ..Reply::with_status(*command, 0)
     }
 }
@@ -53,6 +60,16 @@ pub fn ends(command: &Command) -> [Coo3D; 2] {
     ]
 }
 
+/// The same ends in the source's order.
+pub fn lower_first(command: &Command) -> [Coo3D; 2] {
+    let [p1, p2] = ends(command);
+    if p1.z() > p2.z() {
+        [p2, p1]
+    } else {
+        [p1, p2]
+    }
+}
+
 /// Whether the reference panics at a crossing with −T or T that splits the arc. All of them are tried here, while an arc from cap to cap
 /// has a walk in the south before the reference comes to the second.
 fn split_fails([low, high]: &[Coo3D; 2]) -> bool {
@@ -61,9 +78,23 @@ fn split_fails([low, high]: &[Coo3D; 2]) -> bool {
     [-TRANSITION_Z, TRANSITION_Z].into_iter().any(fails)
 }
 
-/// The slots that the reference has worked out: all, or up to the one at which it panics and those of regions that the arc doesn't reach.
+/// Document 02, ask 7: what stands "in slot three, where the walk ran and the height was rejected (kind 2)". The steps stay. What is crossed here is not
+/// counted, as it is no work of the reference's.
+fn try_again(slot: &mut Slot, ends: &[Coo3D; 2]) {
+    slot.kind = match caught(|| second_try::point(ends)) {
+        Ok(Some(point)) => {
+            slot.point = [point.lon, point.lat].map(pattern);
+            FOUND_BY_HALVING
+        }
+        Ok(None) | Err(Panic::Unreachable) => NONE_BY_HALVING,
+        Err(_) => NO_KIND,
+    };
+}
+
+/// The slots that the reference has worked out: all, or up to the one at which it panics and those of regions that the arc doesn't reach. Its list,
+/// if it gives one, has shown that it has found nothing at those of kind 2.
 fn slots(watched: &Watched<List>, ends: &[Coo3D; 2]) -> [Option<Slot>; 5] {
-    let mut work = watched.work;
+    let mut work = watched.work.clone();
     let mut last = work.order[4];
     match &watched.result {
         Ok(result) => assert_eq!(*result, list(&work.slots), "the slots are not its list"),

@@ -1,7 +1,9 @@
 //! The reply to one command.
 
 use crate::commands::{Command, SLOT};
-use crate::reference::{Crossed, Panic, Slot, WholeTurns};
+use crate::reference::{
+    Coo3D, Crossed, Panic, Slot, WholeTurns, EQUATOR, FOUND_BY_HALVING, NONE_BY_HALVING,
+};
 use std::f64::consts::TAU;
 
 /// For an answer or a panic of the reference's that no kind stands for.
@@ -20,7 +22,7 @@ pub enum Content {
     Crossing(Slot),
 }
 
-#[derive(Clone, Copy, Debug)]
+#[derive(Clone, Debug)]
 pub struct Reply {
     pub command: Command,
     pub status: u8,
@@ -31,6 +33,8 @@ pub struct Reply {
     pub whole_turns: WholeTurns,
     /// What was crossed there by a rule that length and y0 decided.
     pub crossed: Crossed,
+    /// The ends of the piece in the equator, if that is tried a second time.
+    pub tried_again: Option<[Coo3D; 2]>,
 }
 
 impl Reply {
@@ -43,6 +47,7 @@ impl Reply {
             panic: None,
             whole_turns: WholeTurns::default(),
             crossed: Crossed::default(),
+            tried_again: None,
         }
     }
 
@@ -65,7 +70,7 @@ impl Reply {
             Content::Crossing(slot) => vec![Some(slot)],
             Content::Zeros | Content::Height(_) => vec![],
         };
-        let found = slots.into_iter().flatten().filter(|slot| slot.kind == 3);
+        let found = slots.into_iter().flatten().filter(Slot::has_point);
         found.map(|slot| f64::from_bits(slot.point[0])).collect()
     }
 
@@ -102,7 +107,7 @@ impl Reply {
         if let Content::Slots(slots) = &self.content {
             for (place, _) in slots.iter().enumerate().filter(|(_, slot)| slot.is_none()) {
                 let part = 2 + place * SLOT..2 + (place + 1) * SLOT;
-                if is_well_formed(&bytes[part.clone()]) {
+                if is_well_formed(place, &bytes[part.clone()]) {
                     expected[part.clone()].copy_from_slice(&bytes[part]);
                 }
             }
@@ -121,12 +126,14 @@ fn bytes_of(slot: &Slot) -> [u8; SLOT] {
     bytes
 }
 
-/// Whether a slot is zero where its kind carries nothing.
-fn is_well_formed(slot: &[u8]) -> bool {
+/// Whether a slot has a kind that can be there, and is zero where this carries nothing: kind 2 stands in the caps alone, the second try's two at the
+/// equator alone.
+fn is_well_formed(place: usize, slot: &[u8]) -> bool {
     let is_zero = |bytes: &[u8]| bytes.iter().all(|byte| *byte == 0);
-    match slot[0] {
-        0 | 1 => is_zero(&slot[1..]),
-        2 | 4 | 5 => is_zero(&slot[2..]),
-        kind => kind == 3,
+    match (slot[0], place) {
+        (0 | 1, _) => is_zero(&slot[1..]),
+        (NONE_BY_HALVING, EQUATOR) | (4 | 5, _) => is_zero(&slot[2..]),
+        (2, place) => place != EQUATOR && is_zero(&slot[2..]),
+        (kind, place) => kind == 3 || (kind, place) == (FOUND_BY_HALVING, EQUATOR),
     }
 }

@@ -77,7 +77,8 @@ command  job              allowance  settled from
      13  parallel                 -           any
      14  two-arcs                 -           any
      15  two-arcs                 -           any
-     16  arc                     20           any
+     16  arc                     20             2
+     17  arc                     20           any
 
 Every reply stays the same for every allowance from 8 on. This file's own allowances settle every reply.
 ";
@@ -152,6 +153,35 @@ Every reply stays the same for every allowance. This file's own allowances settl
     );
 }
 
+/// An edge of 17 degrees: its walk has left it after the first step, and comes back with more of them. Halvings are no steps.
+#[test]
+fn a_second_try_depends_on_its_walk() {
+    let text = "precision 1e-9\nallowance 20\narc 2.48 0.69 2.29 0.44\nend\n";
+    let name = file("second_try.txt", text.as_bytes());
+    let alone = printed(&[&name], 0);
+    assert!(
+        alone.contains("\n      3  arc                  20             6\n"),
+        "{alone}"
+    );
+    let paired = printed(&[&name, "--allowance", "1"], 3);
+    assert!(
+        paired
+            .contains("\n      3  arc  equator           20            1        6        1  yes\n"),
+        "{paired}"
+    );
+    for (allowance, kind) in [
+        ("1", "after a walk of 1 step found by halving"),
+        ("20", "found after 6 steps"),
+    ] {
+        let text = text.replace("allowance 20", &format!("allowance {allowance}"));
+        let listed = finder(&["list"], text.as_bytes()).text();
+        assert!(
+            listed.contains(&format!("equator: {kind} at longitude 2.")),
+            "{listed}"
+        );
+    }
+}
+
 #[test]
 fn the_example_with_other_allowances() {
     let expected = "\
@@ -166,12 +196,12 @@ command  job              walk              allowance A  allowance B  steps A  s
      11  cone-in-equator  -                          20            4        5        4  yes
      12  cone-in-cap      -                          20            4        8        4  yes
 
-4 of 16 replies differ between A and B: commands 5, 9, 11 and 12.
+4 of 17 replies differ between A and B: commands 5, 9, 11 and 12.
 ";
     assert_eq!(printed(&[EXAMPLE, "--allowance", "4"], 3), expected);
     let one = printed(&[EXAMPLE, "--allowance", "7"], 3);
     assert!(
-        one.ends_with("\n1 of 16 replies differs between A and B: command 12.\n"),
+        one.ends_with("\n1 of 17 replies differs between A and B: command 12.\n"),
         "{one}"
     );
     let none = "\

@@ -155,7 +155,7 @@ fn tables_give_back_every_bit() {
     let csv = rows_of_csv(&finder(&["list", "--format", "csv", TEXT], b"").text());
     let json = rows_of_json(&finder(&["list", "--format", "json", TEXT], b"").text());
     for rows in [csv, json] {
-        assert_eq!(rows.len(), 2 + 8 * 5 + 6);
+        assert_eq!(rows.len(), 2 + 9 * 5 + 6);
         assert_eq!(replies(&rows), stored("reply"));
         assert_eq!(commands(&rows), stored("job"));
     }

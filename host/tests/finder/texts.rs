@@ -202,6 +202,11 @@ fn listed_without_points() {
             "arc 1.2842388656527222 -0.2678237116066448 1.2991747463510848 -0.25479556955392063",
             "equator: neither root passes after 4 steps",
         ),
+        (
+            20,
+            "arc 1 -0.2 2.4 -0.03444042202408743",
+            "equator: after a walk of 3 steps not found by halving",
+        ),
         (20, "two-arcs 0 0 1 0.1 2 -0.1 2.1 0.3", "no crossing found"),
     ];
     for (allowance, command, words) in table {

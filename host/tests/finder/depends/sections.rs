@@ -58,7 +58,7 @@ fn a_section_for_two_files() {
         "{section}"
     );
     assert!(
-        section.contains("\n4 of 16 replies differ between A and B: commands 5, 9, 11 and 12.\n"),
+        section.contains("\n4 of 17 replies differ between A and B: commands 5, 9, 11 and 12.\n"),
         "{section}"
     );
     for name in [
