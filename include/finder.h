@@ -118,8 +118,9 @@
  * is zero. A longitude is at least 0 and below 2 pi, 6.283185307179586, or a NaN; it may be -0. A NaN is written 7FF8000000000000.
  *
  * FINDER_SLOT_EQUATOR never has FINDER_KIND_REJECTED: a second try follows there, and gives one of the last two kinds, which no other slot or answer
- * has. Its halvings are no steps. A point by halving is a special point of the arc but where the arc begins or ends at the highest or lowest point
- * of its circle, or runs along the equator: then it may be any point beside that end, or on the arc.
+ * has. Its halvings are no steps. A point by halving is a special point of the arc as closely as another point found, or lies past an end by rounding
+ * (measured, not proved). But where the arc begins or ends at the highest or lowest point of its circle, or follows the equator, it may be none: a
+ * point beside that end, or anywhere on the arc.
  */
 #define FINDER_KIND_NO_PIECE 0         /* the arc has no such piece */
 #define FINDER_KIND_NO_WALK 1          /* longitudes equal or signs the same, no walk */

@@ -1,7 +1,7 @@
 -- `LongitudesReplied` (specs/Longitudes.antt): a point is found by a crossing alone, and its longitude is that of a vector (crate coo3d).
 use Rattle.std.specs.Prelude.{Ok, Err}
 use Prim.Native.Nat.{ℕ}
-use mathlib.Core.Bool.{Bool, true, false, cond, ◌&&◌}
+use mathlib.Core.Bool.{Bool, cond, ◌&&◌}
 use lib.Ieee.{Float}
 use Rattle.coo3d.specs.LonLats.{lon_lat_of}
 use Rattle.coo3d.proofs.WholeTurns.{whole_turns}
@@ -22,6 +22,7 @@ use Rattle.splits.specs.Splits.{Pieces}
 use Rattle.special_points_finder.specs.Arcs.{arc_plan, slots_at}
 use Rattle.table.specs.declared.reply.Reply.TheVariants.{Slots}
 use Rattle.table.specs.Table.{arc}
+use Rattle.table.proofs.Cases.{by_test}
 use Rattle.claims.proofs.Replies.{of_each_reply}
 use Rattle.claims.specs.Longitudes.{FoundInTurn, RepliedInTurn, LongitudesReplied}
 
@@ -44,13 +45,9 @@ on_second_try NoRoot h = tt
 on_second_try (FoundByHalving lon lat) h = tt
 on_second_try NoneByHalving h = tt
 
-either : (b : Bool) (x y : Answer) → FoundInTurn x → FoundInTurn y → FoundInTurn (cond b x y)
-either true x y h k = h
-either false x y h k = k
-
 unless_rejected : (b : Bool) (a : Answer) → FoundInTurn a → FoundInTurn (cond b a Rejected)
 unfolding FoundInTurn
-unless_rejected b a h = either b a Rejected h tt
+unless_rejected b a h = by_test FoundInTurn b (λ e. h) (λ e. tt)
 
 of_height : (z : Float) → FoundInTurn (Height z)
 unfolding FoundInTurn
@@ -59,7 +56,9 @@ of_height z = tt
 of_ending : (e : Ending) (z : Float) → FoundInTurn (answer_at e z)
 unfolding answer_at second_try eqr_arc pc_arc eqr_cone pc_cone
 of_ending (EqrArc arc) z =
-    either (accepted_eqr z && from_end_to_end arc.p1.z z arc.p2.z) _ _ (of_crossing (crossing_of arc z)) (on_second_try _ (of_crossing (crossing_of arc _)))
+    by_test FoundInTurn (accepted_eqr z && from_end_to_end arc.p1.z z arc.p2.z)
+    (λ e. of_crossing (crossing_of arc z))
+    (λ e. on_second_try _ (of_crossing (crossing_of arc _)))
 of_ending (PcArc arc) z =
     unless_rejected (accepted_npc z && strictly_between arc.z1 z arc.z2) _
     (of_crossing (intersect_parallel arc.p1 arc.p2 (mirrored_of arc.south z)))

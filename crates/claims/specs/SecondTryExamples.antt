@@ -1,5 +1,5 @@
--- Document 02, ask 7, by example: a reply whose third slot has kind 6, the same arc's with more steps, and one with kind 7. Definitions and the claim;
--- `proofs/SecondTryExamples.antt` has it computed.
+-- Document 02, ask 7, by example: a reply whose third slot has kind 6, the same arc's with more steps, one whose point is the sixtieth middle's alone, and one
+-- with kind 7. Definitions and the claim; `proofs/SecondTryExamples.antt` has it computed.
 use Rattle.std.specs.Prelude.{replicate, ℕ, ◌≡◌, true, false, List, ◌∷◌, ◌++◌}
 use Rattle.std.specs.Float.{binary64}
 use Rattle.std.specs.Float.Ieee.{of_bits, round}
