@@ -48,7 +48,7 @@ crossed_of (Ok v) = let p = lon_lat_of v.x v.y v.z in Found p.lon p.lat
 crossed_of (Err crossing.NotBetween) = NotBetween
 crossed_of (Err crossing.NoRoot) = NoRoot
 
--- document 02, ask 7, of a crossing's answer: "kind 6 with its longitude and latitude if found, 7 and zeros if not"
+-- document 02, ask 7, of a crossing's answer: "kind 6 with its longitude and latitude if found, 7 and zeros if not", kinds 4 and 5 alike
 unfoldable pub second_try_of : Answer → Answer
 second_try_of (Found lon lat) = FoundByHalving lon lat
 second_try_of a = NoneByHalving

@@ -11,13 +11,13 @@ use Rattle.newton.specs.Walks.{walk_of}
 use Rattle.newton.specs.Regions.{mirrored_of}
 use Rattle.answers.specs.Answers.{without_walk, crossed_of, second_try_of}
 use Rattle.answers.specs.declared.answer.Answer.{Answer}
-use Rattle.answers.specs.declared.answer.Answer.TheVariants.{NoPiece, NoWalk, Rejected, Found, Height, NotBetween, NoRoot, FoundByHalving, NoneByHalving}
+use Rattle.answers.specs.declared.answer.Answer.TheVariants.{Rejected, Height}
 use Rattle.plans.specs.Endings.{accepted_eqr, accepted_npc, from_end_to_end, second_try, eqr_arc, pc_arc, eqr_cone, pc_cone, answer_at}
 use Rattle.plans.specs.Plans.{slot_at, cap_slots_at}
 use Rattle.plans.specs.declared.ending.Ending.{Ending}
 use Rattle.plans.specs.declared.ending.Ending.TheVariants.{EqrArc, PcArc, EqrCone, PcCone}
 use Rattle.plans.specs.declared.plan.Plan.{Plan}
-use Rattle.plans.specs.declared.plan.Plan.TheVariants as plan
+use Rattle.plans.specs.declared.plan.Plan.TheVariants.{NoPiece, NoWalk, Begins}
 use Rattle.splits.specs.Splits.{Pieces}
 use Rattle.special_points_finder.specs.Arcs.{arc_plan, slots_at}
 use Rattle.table.specs.declared.reply.Reply.TheVariants.{Slots}
@@ -33,17 +33,11 @@ of_crossing (Ok v) = whole_turns.longitude v.x v.y
 of_crossing (Err crossing.NotBetween) = tt
 of_crossing (Err crossing.NoRoot) = tt
 
-on_second_try : (a : Answer) → FoundInTurn a → FoundInTurn (second_try_of a)
-unfolding FoundInTurn second_try_of
-on_second_try NoPiece h = tt
-on_second_try NoWalk h = tt
-on_second_try Rejected h = tt
-on_second_try (Found lon lat) h = h
-on_second_try (Height z) h = tt
-on_second_try NotBetween h = tt
-on_second_try NoRoot h = tt
-on_second_try (FoundByHalving lon lat) h = tt
-on_second_try NoneByHalving h = tt
+on_second_try : (c : Crossing) → FoundInTurn (second_try_of (crossed_of c))
+unfolding FoundInTurn second_try_of crossed_of lon_lat_of
+on_second_try (Ok v) = whole_turns.longitude v.x v.y
+on_second_try (Err crossing.NotBetween) = tt
+on_second_try (Err crossing.NoRoot) = tt
 
 unless_rejected : (b : Bool) (a : Answer) → FoundInTurn a → FoundInTurn (cond b a Rejected)
 unfolding FoundInTurn
@@ -58,7 +52,7 @@ unfolding answer_at second_try eqr_arc pc_arc eqr_cone pc_cone
 of_ending (EqrArc arc) z =
     by_test FoundInTurn (accepted_eqr z && from_end_to_end arc.p1.z z arc.p2.z)
     (λ e. of_crossing (crossing_of arc z))
-    (λ e. on_second_try _ (of_crossing (crossing_of arc _)))
+    (λ e. on_second_try (crossing_of arc _))
 of_ending (PcArc arc) z =
     unless_rejected (accepted_npc z && strictly_between arc.z1 z arc.z2) _
     (of_crossing (intersect_parallel arc.p1 arc.p2 (mirrored_of arc.south z)))
@@ -67,9 +61,9 @@ of_ending (PcCone south) z = unless_rejected (accepted_npc z) _ (of_height (mirr
 
 of_plan : (n : ℕ) (p : Plan) → FoundInTurn (slot_at n p).answer
 unfolding FoundInTurn slot_at without_walk
-of_plan n plan.NoPiece = tt
-of_plan n plan.NoWalk = tt
-of_plan n (plan.Begins start ending) = of_ending ending (walk_of start n).z
+of_plan n NoPiece = tt
+of_plan n NoWalk = tt
+of_plan n (Begins start ending) = of_ending ending (walk_of start n).z
 
 -- ---- a reply
 of_slots : (n : ℕ) (r : Pieces) (p : Float) → RepliedInTurn (Ok (Slots (slots_at n (arc_plan r p))))

@@ -11,7 +11,7 @@ use Rattle.newton.specs.declared.slope.Slope.{Slope}
 unfoldable pub cte_eqr : Bool → Float
 cte_eqr north = cond north (neg one_over_transition_z ⊗ quarter_pi) (one_over_transition_z ⊗ quarter_pi)
 
--- of a great circle in the equatorial region: z0 is the height of its normal, r is 0
+-- the slope of a great circle in the equatorial region: z0 is the height of its normal, r is 0
 unfoldable pub slope_in_eqr : Float → Slope
 slope_in_eqr z0 = equatorial (cone_of z0 plus_zero) (cte_eqr (lt z0 plus_zero))
 
