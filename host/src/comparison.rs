@@ -12,6 +12,7 @@ use crate::inputs::{two_arcs, BESIDE_LONGITUDE_0, TWO_ARCS};
 use crate::job_files::{self, Maker};
 use crate::limits::Limits;
 use crate::outcomes::{print_row, Outcomes};
+use crate::quarters::Quarters;
 use crate::reference::{self, Panic, Slot};
 use crate::rules::{self, Answer, Content, Reply};
 use crate::second_tries::SecondTries;
@@ -84,6 +85,7 @@ struct Comparison {
     turns: Turns,
     limits: Limits,
     second_tries: SecondTries,
+    quarters: Quarters,
     geometry: Geometry,
     /// Slots that the reference did not come to.
     unknown_slots: u64,
@@ -108,6 +110,7 @@ impl Comparison {
             turns: Turns::default(),
             limits: Limits::default(),
             second_tries: SecondTries::default(),
+            quarters: Quarters::default(),
             geometry: Geometry::default(),
             unknown_slots: 0,
             files: 0,
@@ -169,6 +172,7 @@ impl Comparison {
             self.turns.count(reply);
             self.limits.count(reply);
             self.second_tries.count(reply);
+            self.quarters.count(reply);
             if let Some(difference) = difference {
                 differs = true;
                 self.show(job, buffer, &format!("{}: {difference}", reply.command));
@@ -269,6 +273,7 @@ impl Comparison {
         self.turns.print();
         self.limits.print();
         self.second_tries.print();
+        self.quarters.print();
         self.total.crossings.print();
         self.geometry.print();
         print_row(
@@ -312,6 +317,7 @@ impl Comparison {
             turns,
             self.limits.missing(),
             self.second_tries.missing(),
+            self.quarters.missing(),
             self.depends.missing(),
         ];
         [others.concat(), crossings.concat()].concat()

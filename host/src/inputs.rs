@@ -133,6 +133,11 @@ pub fn short_arc(random: &mut Random) -> Command {
     }
 }
 
+/// An arc with ends on quarters' borders, or at other values where a rule changes.
+pub fn on_borders(random: &mut Random) -> Command {
+    arc(random, ends::on_borders_or_boundaries)
+}
+
 /// An arc that is often tried a second time.
 pub fn tried_again(random: &mut Random) -> Command {
     arc(random, second_try::any)

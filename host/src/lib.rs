@@ -26,6 +26,8 @@ pub mod patterns;
 pub mod plain_reference;
 pub mod program;
 pub mod programs;
+#[cfg(reference)]
+pub mod quarters;
 pub mod random;
 #[cfg(reference)]
 pub mod reference;

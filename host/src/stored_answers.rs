@@ -7,6 +7,7 @@ use crate::inputs::{self, two_arcs, Input, NOT_FINITE};
 use crate::job_files::{self, Maker};
 use crate::limits::Limits;
 use crate::outcomes::Outcomes;
+use crate::quarters::Quarters;
 use crate::random::{moved, Random};
 use crate::reference;
 use crate::rules::{self, Reply, Settings};
@@ -18,7 +19,8 @@ use std::fmt;
 const SEED: u64 = 0x5374_6F72;
 const FILES: usize = 2_200;
 /// At least so many of each kind in each slot, of whole turns in either longitude function, of longitudes −0, of each length that decides on a rule, of
-/// each side of both limits and of each event of second tries and of two arcs, and at most so many jobs tried for them.
+/// each side of both limits, of each event of second tries and of two arcs, of each place in each quarter of a cap and of each height about the
+/// transition, and at most so many jobs tried for them.
 const OF_A_KIND: u64 = 4;
 /// So many of each class of two arcs.
 const OF_TWO_ARCS: usize = 6;
@@ -37,6 +39,7 @@ pub struct Stored {
     turns: Turns,
     limits: Limits,
     second_tries: SecondTries,
+    quarters: Quarters,
     crossings: Crossings,
     maker: Maker,
 }
@@ -51,6 +54,7 @@ pub fn make() -> Result<Stored, String> {
         turns: Turns::default(),
         limits: Limits::default(),
         second_tries: SecondTries::default(),
+        quarters: Quarters::default(),
         crossings: Crossings::default(),
         maker: Maker::new(SEED),
     };
@@ -76,6 +80,11 @@ pub fn make() -> Result<Stored, String> {
         |it| it.second_tries.least(),
         |it, reply| it.second_tries.least_of(reply),
     );
+    stored.add_until(
+        inputs::on_borders,
+        |it| it.quarters.least(),
+        |it, reply| it.quarters.least_of(reply),
+    );
     stored.add_two_arcs();
     stored.add_until(
         two_arcs::any,
@@ -87,6 +96,7 @@ pub fn make() -> Result<Stored, String> {
         stored.outcomes.missing(),
         stored.limits.missing(),
         stored.second_tries.missing(),
+        stored.quarters.missing(),
         stored.crossings.missing(),
     ]
     .concat();
@@ -123,6 +133,7 @@ impl Stored {
             self.turns.count(reply);
             self.limits.count(reply);
             self.second_tries.count(reply);
+            self.quarters.count(reply);
             self.crossings.count(reply);
         }
         let number = usize::from(answer.number);

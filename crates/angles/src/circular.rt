@@ -71,7 +71,7 @@ fn within_quarter_turn(r: f64) -> SinCos
 }
 
 // How many quarter turns, 0 to 3, there are in a.
-fn quarter_turns(a: f64) -> u8
+pub fn quarter_turns(a: f64) -> u8
     ensures { result ≡ quarter_turns a }
 {
     if 3.0 * HALF_PI <= a {

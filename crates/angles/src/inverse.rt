@@ -1,10 +1,18 @@
 // Arctangent, atan2 and acos, as document 01's "Root and angles" has them.
 
+ghost use Rattle.std.specs.Float.Ieee.{neg};
 ghost use Rattle.std.specs.Prelude.{◌≡◌};
 ghost use Rattle.angles.specs.Inverse.{half_angle, arctangent_of, first_quadrant, reflected_of, atan2_of, acos_of};
 
 use super::{HALF_PI, PI, float, series};
 use root::patterns;
+
+// What a direction has, and the opposite one: an angle, or a longitude.
+#[derive(Clone, Copy)]
+pub struct OfOpposites {
+    pub own: f64,
+    pub opposite: f64,
+}
 
 // From the tangent of an angle to the tangent of its half.
 #[tactic(auto, unfolding(crate::specs::Inverse::half_angle))]
@@ -61,16 +69,32 @@ fn reflected(set: bool, a: f64) -> f64
     if set { PI - a } else { a }
 }
 
+// The angles of (x, y) and of (-x, -y): they differ in the quadrant alone, so the arctangent is worked out once.
 #[tactic(auto, unfolding(crate::specs::Inverse::atan2_of))]
-pub fn atan2(y: f64, x: f64) -> f64
-    ensures { result ≡ atan2_of y x }
+pub fn atan2_of_opposites(y: f64, x: f64) -> OfOpposites
+    ensures { (result.own ≡ atan2_of y x) × (result.opposite ≡ atan2_of (neg y) (neg x)) }
 {
     if float::is_finite(y) & float::is_finite(x) {
         let a = first_quadrant(float::abs(y), float::abs(x));
-        float::signed(float::sign(y), reflected(float::sign(x), a))
+        let below = float::sign(y);
+        let left = float::sign(x);
+        OfOpposites {
+            own: float::signed(below, reflected(left, a)),
+            opposite: float::signed(!below, reflected(!left, a)),
+        }
     } else {
-        patterns::not_a_number()
+        OfOpposites {
+            own: patterns::not_a_number(),
+            opposite: patterns::not_a_number(),
+        }
     }
+}
+
+pub fn atan2(y: f64, x: f64) -> f64
+    ensures { result ≡ atan2_of y x }
+{
+    let a = atan2_of_opposites(y, x);
+    a.own
 }
 
 #[tactic(auto, unfolding(crate::specs::Inverse::acos_of))]

@@ -5,8 +5,6 @@ ghost use Rattle.arc_ends.specs.Ends.{ends_of, ends_finite, ends_in_range, edge_
 
 use angles::float;
 use coo3d::lonlat;
-use coo3d::point::Coo3D;
-use coo3d::vect3::Vect3;
 use two_arcs::edge::Edge;
 use words::input;
 
@@ -57,11 +55,12 @@ impl Ends {
 impl From<Ends> for Edge {
     ghost from_gives = { λ e x. x ≡ edge_of e };
 
-    #[tactic(auto, unfolding(crate::specs::Ends::edge_of))]
+    // The vectors of both ends; no points are made for them.
+    #[tactic(auto, using(coo3d::proofs::Heights::vector), unfolding(crate::specs::Ends::edge_of))]
     fn from(e: Ends) -> Edge {
         Edge {
-            p1: Vect3::from(Coo3D::from_sph_coo(e.lon1, e.lat1)),
-            p2: Vect3::from(Coo3D::from_sph_coo(e.lon2, e.lat2)),
+            p1: lonlat::vec3_of(e.lon1, e.lat1),
+            p2: lonlat::vec3_of(e.lon2, e.lat2),
         }
     }
 }

@@ -9,8 +9,8 @@ use angles::PI;
 use answers::answer::Slot;
 use coo3d::point::Coo3D;
 use coo3d::regions::Cap;
+use coo3d::vect3;
 use coo3d::vect3::Vect3;
-use coo3d::{quarter, vect3};
 use newton::slope;
 use plans::plan;
 use plans::plan::{Plan, Settings};
@@ -43,10 +43,10 @@ fn quarter_end(odd: bool) -> Vect3
 }
 
 #[tactic(auto, unfolding(crate::specs::Caps::odd_quarter))]
-fn odd_quarter(lon: f64) -> bool
-    ensures { result ≡ odd_quarter lon }
+fn odd_quarter(quarter: u8) -> bool
+    ensures { result ≡ odd_quarter quarter }
 {
-    quarter::quarter(lon) % 2 == 1
+    quarter % 2 == 1
 }
 
 impl Plane {
@@ -67,14 +67,14 @@ impl Plane {
     fn end_of_quarter(self, p: Coo3D) -> Coo3D
         ensures { result ≡ end_of_quarter self.z self.normal p }
     {
-        self.intersect_point_pc(quarter_end(odd_quarter(p.lon)))
+        self.intersect_point_pc(quarter_end(odd_quarter(p.quarter)))
     }
 
     #[tactic(auto, unfolding(crate::specs::Caps::start_of_quarter))]
     fn start_of_quarter(self, p: Coo3D) -> Coo3D
         ensures { result ≡ start_of_quarter self.z self.normal p }
     {
-        self.intersect_point_pc(quarter_end(!odd_quarter(p.lon)))
+        self.intersect_point_pc(quarter_end(!odd_quarter(p.quarter)))
     }
 
     // The piece from p to the end of its quarter; there is none if p lies at its start.
@@ -82,7 +82,7 @@ impl Plane {
     fn piece_to_end(self, p: Coo3D, precision: f64) -> Plan
         ensures { result ≡ piece_to_end self.z self.normal p precision }
     {
-        if quarter::lon_mod_half_pi(p.lon) > 0.0 {
+        if p.lon_mod > 0.0 {
             same_quarter::same_quarter_plan(p, self.end_of_quarter(p), precision)
         } else {
             Plan::NoPiece
@@ -94,7 +94,7 @@ impl Plane {
     fn piece_to_larger_end(self, p: Coo3D, precision: f64) -> Plan
         ensures { result ≡ piece_to_larger_end self.z self.normal p precision }
     {
-        if quarter::lon_mod_half_pi(p.lon) > 0.0 {
+        if p.lon_mod > 0.0 {
             let end = self.end_of_quarter(p);
             if p.lon < end.lon {
                 same_quarter::same_quarter_plan(p, end, precision)
@@ -157,7 +157,7 @@ fn plan_within_turn(p1: Coo3D, p2: Coo3D, precision: f64) -> Cap<Plan>
 fn ordered_plan_in_pc(p1: Coo3D, p2: Coo3D, precision: f64) -> Cap<Plan>
     ensures { result ≡ ordered_plan_in_pc p1 p2 precision }
 {
-    if quarter::quarter(p1.lon) == quarter::quarter(p2.lon) {
+    if p1.quarter == p2.quarter {
         Cap {
             first: same_quarter::same_quarter_plan(p1, p2, precision),
             second: Plan::NoPiece,

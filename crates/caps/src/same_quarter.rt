@@ -6,7 +6,7 @@ ghost use Rattle.caps.specs.SameQuarter.{center_of, end_lon, quarter_piece, star
 use angles::{PI, float};
 use coo3d::point::Coo3D;
 use coo3d::vect3::Vect3;
-use coo3d::{lonlat, quarter, vect3};
+use coo3d::{lonlat, vect3};
 use crossing::parallel;
 use newton::slope::{Cone, NpcSlope, Slope};
 use newton::walk::Start;
@@ -31,21 +31,32 @@ struct QuarterPiece {
     z2: f64,
 }
 
-// Of the normal of the plane through both, or of its opposite where the longitude is above π.
-#[tactic(auto, unfolding(crate::specs::SameQuarter::center_of))]
+// Of the normal of the plane through both, or of its opposite where the longitude is above π. A unit vector's opposite is not divided again, so the
+// arctangent of the normal's longitude serves its longitude too.
+#[tactic(auto, using(coo3d::proofs::Opposites::unit_opposite), unfolding(crate::specs::SameQuarter::center_of))]
 fn cone_center(v1: Vect3, v2: Vect3) -> Center
     ensures { result ≡ center_of v1 v2 }
 {
     let n = vect3::cross_product(v1, v2).normalized();
-    let lon = lonlat::lon_of(n.x, n.y);
-    if lon > PI {
-        let o = n.opposite();
-        Center {
-            z: o.z,
-            lon: lonlat::lon_of(o.x, o.y),
+    let lon = lonlat::lon_of_opposites(n.x, n.y);
+    if lon.own > PI {
+        if n.is_unit() {
+            Center {
+                z: -n.z,
+                lon: lon.opposite,
+            }
+        } else {
+            let o = n.opposite();
+            Center {
+                z: o.z,
+                lon: lonlat::lon_of(o.x, o.y),
+            }
         }
     } else {
-        Center { z: n.z, lon }
+        Center {
+            z: n.z,
+            lon: lon.own,
+        }
     }
 }
 
@@ -129,7 +140,7 @@ pub fn same_quarter_plan(p1: Coo3D, p2: Coo3D, precision: f64) -> Plan
     if p1.lon == p2.lon {
         return Plan::NoWalk;
     }
-    let v1 = Coo3D::from_sph_coo(quarter::lon_mod_half_pi(p1.lon), p1.lat);
-    let v2 = Coo3D::from_sph_coo(end_lon(quarter::lon_mod_half_pi(p2.lon)), p2.lat);
+    let v1 = Coo3D::from_sph_coo(p1.lon_mod, p1.lat);
+    let v2 = Coo3D::from_sph_coo(end_lon(p2.lon_mod), p2.lat);
     piece(v1, v2).plan(Vect3::from(p1), Vect3::from(p2), precision)
 }

@@ -7,7 +7,6 @@ use lib.Ieee.{Float, lt, eq}
 use Rattle.angles.specs.Floats.{◌⊖◌, plus_zero}
 use Rattle.angles.specs.Constants.{pi}
 use Rattle.coo3d.specs.Points.{from_sph_coo, vect_of}
-use Rattle.coo3d.specs.Quarters.{quarter_of, lon_mod_half_pi}
 use Rattle.coo3d.specs.declared.regions.Cap.{Cap}
 use Rattle.coo3d.specs.declared.point.Coo3D.{Coo3D}
 use Rattle.coo3d.specs.declared.vect3.Vect3.{Vect3}
@@ -98,20 +97,20 @@ walked s a n = cap_arc a (walk_of s n).z
 of_same_quarter : (p1 p2 : Coo3D) (precision : Float) → InCap (same_quarter_plan p1 p2 precision)
 unfolding same_quarter_plan piece_plan
 of_same_quarter p1 p2 precision =
-    let v1 = from_sph_coo (lon_mod_half_pi p1.lon) p1.lat in
-    let v2 = from_sph_coo (end_lon (lon_mod_half_pi p2.lon)) p2.lat in
+    let v1 = from_sph_coo p1.lon_mod p1.lat in
+    let v2 = from_sph_coo (end_lon p2.lon_mod) p2.lat in
     let q = quarter_piece v1 v2 in
     by_test InCap (eq p1.lon p2.lon) (λ e. no_walk)
     (λ e. by_test InCap (have_same_sign (slope_at q.slope q.z1) (slope_at q.slope q.z2)) (λ f. no_walk) (λ f. walked _ _))
 
 to_end : (z : Float) (normal : Vect3) (p : Coo3D) (precision : Float) → InCap (piece_to_end z normal p precision)
 unfolding piece_to_end
-to_end z normal p precision = by_test InCap (lt plus_zero (lon_mod_half_pi p.lon)) (λ e. of_same_quarter p _ precision) (λ e. no_piece)
+to_end z normal p precision = by_test InCap (lt plus_zero p.lon_mod) (λ e. of_same_quarter p _ precision) (λ e. no_piece)
 
 to_larger_end : (z : Float) (normal : Vect3) (p : Coo3D) (precision : Float) → InCap (piece_to_larger_end z normal p precision)
 unfolding piece_to_larger_end
 to_larger_end z normal p precision =
-    by_test InCap (lt plus_zero (lon_mod_half_pi p.lon) && lt p.lon (end_of_quarter z normal p).lon) (λ e. of_same_quarter p _ precision) (λ e. no_piece)
+    by_test InCap (lt plus_zero p.lon_mod && lt p.lon (end_of_quarter z normal p).lon) (λ e. of_same_quarter p _ precision) (λ e. no_piece)
 
 from_start : (z : Float) (normal : Vect3) (p : Coo3D) (precision : Float) → InCap (piece_from_start z normal p precision)
 unfolding piece_from_start
@@ -123,7 +122,7 @@ BothInCap c = InCap c.first × InCap c.second
 of_ordered : (p1 p2 : Coo3D) (precision : Float) → BothInCap (ordered_plan_in_pc p1 p2 precision)
 unfolding ordered_plan_in_pc plan_across_zero plan_within_turn
 of_ordered p1 p2 precision =
-    by_test BothInCap (eqb (quarter_of p1.lon) (quarter_of p2.lon))
+    by_test BothInCap (eqb p1.quarter p2.quarter)
     (λ e. (of_same_quarter p1 p2 precision, no_piece))
     (λ e. by_test BothInCap (lt pi (p2.lon ⊖ p1.lon))
     (λ e. (of_same_quarter _ p1 precision, to_larger_end _ _ p2 precision))
@@ -157,8 +156,10 @@ of_eqr : (o : Option Piece) (precision : Float) → AtEquator (plan_in_eqr o pre
 unfolding plan_in_eqr arc_plan_in_eqr
 of_eqr None precision = no_piece_at_equator
 of_eqr (Some p) precision =
-    let slope = slope_in_eqr (great_arc (vect_of p.from) (vect_of p.to)).normal.z in
-    by_test AtEquator (have_same_sign (slope_at slope p.from.z) (slope_at slope p.to.z)) (λ e. no_walk_at_equator) (λ e. walked_at_equator _ _)
+    let v1 = vect_of p.from in
+    let v2 = vect_of p.to in
+    let slope = slope_in_eqr (great_arc v1 v2).normal.z in
+    by_test AtEquator (have_same_sign (slope_at slope v1.z) (slope_at slope v2.z)) (λ e. no_walk_at_equator) (λ e. walked_at_equator _ _)
 
 -- ---- a cone
 cone_in_eqr : (s : Start) → InCap (Begins s EqrCone)

@@ -9,7 +9,7 @@ use Rattle.root.specs.Root.{root_of}
 use Rattle.angles.specs.Floats.{sign_of, abs_of, signed_of, finite_of}
 use Rattle.angles.specs.Inverse.{horner, half_angle, arctangent_of, first_quadrant, reflected_of, atan2_of}
 use Rattle.angles.specs.Circular.{◌!, sine_series, cosine_series, within_quarter_turn, quarter_turns, turned_by, signed_sine, sin_cos_of}
-use Rattle.coo3d.specs.Vectors.{dot_of, cross_of, squared_norm_of, norm_of, divided_by, normalized_of, new_unit, opposite_of}
+use Rattle.coo3d.specs.Vectors.{dot_of, cross_of, squared_norm_of, norm_of, divided_by, normalized_of, is_unit, new_unit, opposite_of}
 use Rattle.coo3d.specs.LonLats.{is_longitude, is_latitude, lon_of, lat_of, lon_lat_of, vec3_of}
 use Rattle.coo3d.specs.Points.{from_sph_coo, vect_of}
 use Rattle.two_arcs.specs.TwoArcs.{cross_of_ends, cross_of_arcs, passes_of, passes_both, first_that_passes, zero_or_nan, intersect_arcs}
@@ -24,7 +24,7 @@ use Rattle.claims.proofs.TwoArcsReplies.{status_twelve}
 use Rattle.claims.specs.TwoArcsExamples.{reply_to, along, onwards, up, tiny_along, tiny_up, TwoArcsExamples, SidesOfStatusTwelve}
 
 pub two_arcs_examples : TwoArcsExamples
-unfolding reply_of turn_of reply_bytes status_of answer_bytes reply_in work_of refusal_of first_failing finite_from flags_from in_range_from row_of two_arcs meeting_work given_of crossed_of crossing_bytes numbers_of kind_alone point_bytes intersect_arcs first_that_passes passes_both passes_of cross_of_arcs cross_of_ends zero_or_nan dot_of cross_of squared_norm_of norm_of divided_by normalized_of new_unit opposite_of lon_lat_of lon_of lat_of atan2_of signed_of sign_of reflected_of first_quadrant arctangent_of half_angle horner finite_of root_of abs_of from_sph_coo vect_of vec3_of sin_cos_of quarter_turns turned_by signed_sine within_quarter_turn sine_series cosine_series ◌! is_longitude is_latitude float_at word_at little float_bytes bytes of_bits of_int to_bits round neg add sub mul div lt le eq ne
+unfolding reply_of turn_of reply_bytes status_of answer_bytes reply_in work_of refusal_of first_failing finite_from flags_from in_range_from row_of two_arcs meeting_work given_of crossed_of crossing_bytes numbers_of kind_alone point_bytes intersect_arcs first_that_passes passes_both passes_of cross_of_arcs cross_of_ends zero_or_nan dot_of cross_of squared_norm_of norm_of divided_by normalized_of is_unit new_unit opposite_of lon_lat_of lon_of lat_of atan2_of signed_of sign_of reflected_of first_quadrant arctangent_of half_angle horner finite_of root_of abs_of from_sph_coo vect_of vec3_of sin_cos_of quarter_turns turned_by signed_sine within_quarter_turn sine_series cosine_series ◌! is_longitude is_latitude float_at word_at little float_bytes bytes of_bits of_int to_bits round neg add sub mul div lt le eq ne
 two_arcs_examples = record { candidate = refl; opposite = refl; neither = refl; far_side = refl }
 
 -- neither 7 nor 9 refuses any of the three pairs

@@ -1,152 +1,156 @@
--- The longitude modulo π/2 in whole numbers. `rem`, `⊖` and `⊘` each round a fraction, so equal fractions are enough. A number below 1 in size is its own
--- remainder. Any other is m * 2 ^ k units of 2 ^ -52, of which π/2 has so many, and what that leaves is the remainder, again in these units.
+-- The longitude modulo π/2 without a remainder of floats: for a longitude in the turn, with k of 0 to 3 quarter turns in it, `rem` rounds the same fraction as the
+-- difference of the longitude and k × (π/2), which is a value of the format for each of the four.
 use mathlib.Core.Path.{◌≡◌, refl, sym, ap, ◌∙◌, subst}
-use mathlib.Core.Bool.{Bool, true, false, true≢false, cond}
-use Prim.Native.Nat.{ℕ, zero, suc, ◌+◌, ◌-◌, ◌*◌, ◌/◌, ◌%◌, ◌^◌, ◌≤◌, ◌<◌}
-use native.Mathlib.Nat.{mul-pos, mul-le-mul_right, le_of_mul-le-mul_right, lt_of_not-le, not-le_of_lt, mod-eq_of_lt, mod-lt, mul_assoc, eq_of_mul-eq-mul_right, lt_of_lt_of_le, mul-lt-mul_of_pos_right, add-mul-mod_self_right}
+use mathlib.Core.Logic.{⊎_elim}
+use mathlib.Core.Bool.{Bool, true, false, ◌&&◌, cond}
+use Prim.Native.Nat.{ℕ, ◌+◌, ◌-◌, ◌*◌, ◌%◌, ◌^◌, ◌≤◌, ◌<◌}
+use native.Mathlib.Nat.{mul-pos, mul-le-mul_right, le_of_mul-le-mul_right, lt_of_not-le, mod-eq_of_lt, add-mul-mod_self_right, zero-mod}
 use native.Mathlib.Omega.{arith}
-use borrow.Author.Tests.{le-ltb, ne_eqb}
-use lib.Dec.{lit≤, eqb, leb}
-use lib.IntN.{ℤ, pos}
-use lib.Pow.{pow-add, pow_pos, pow_mono, shl_lt}
-use lib.Ieee.{Float, nan, inf, fin, binary64, up, down, round, odd, of_fields, of_bits, of_int, neg, sum, add, sub, div, rem}
-use lib.Ieee.Fits.{down_pos}
-use lib.Ieee.Exact.{HasValue, odd_sign}
-use lib.Ieee.Back.{round_whole}
+use borrow.Author.Tests.{le-ltb}
+use lib.Dec.{T, ltb→lt, lit≤}
+use lib.IntN.{ℤ, pos, negsuc}
+use lib.Pow.{pow_pos}
+use lib.Ieee.{Float, nan, inf, fin, binary64, up, down, round, sum, add, sub, mul, rem, neg, of_bits, of_int, lt, le}
+use lib.Ieee.Fits.{and_l, and_r, down_pos}
+use lib.Ieee.Bits.{is_true}
 use lib.Ieee.Scale.{round_same}
-use Rattle.angles.specs.Floats.{◌⊖◌, ◌⊘◌, plus_zero}
-use Rattle.angles.specs.Constants.{half_pi}
-use Rattle.coo3d.specs.Quarters.{half_pi_units, lon_mod_half_pi}
+use Rattle.angles.specs.Floats.{◌⊖◌, ◌⊗◌, of_nat, plus_zero}
+use Rattle.angles.specs.Constants.{half_pi, two_pi}
+use Rattle.angles.specs.Circular.{quarter_turns}
+use Rattle.bounds.proofs.Order.{le→below, below→le}
+use Rattle.coo3d.specs.LonLats.{is_longitude, InTurn}
+use Rattle.coo3d.specs.Quarters.{lon_mod_half_pi}
 
--- π/2 is so many times 2 ^ -49, as the float has it
-abbrev odd_units : ℕ
-odd_units = 884279719003555
+-- x − k × y of an x with k × y in it
+left_over : (x y k : ℕ) → k * y ≤ x → x < k * y + y → x % y ≡ x - k * y
+left_over x y k h l =
+    let e : x ≡ x - k * y + k * y = omega arith in
+    let i : x - k * y < y = omega arith in
+    ap (λ (z : ℕ). z % y) e ∙ add-mul-mod_self_right (x - k * y) k y ∙ mod-eq_of_lt i
 
-pub units_are : half_pi ≡ round binary64 false half_pi_units (2 ^ 52)
-unfolding of_bits round
-units_are = refl
+-- x − y of two floats without a sign, for y ≤ x
+difference : (m : ℕ) (e : ℤ) (n : ℕ) (d : ℤ) → n * up d * down e ≤ m * up e * down d
+    → sub binary64 (fin false m e) (fin false n d) ≡ round binary64 false (m * up e * down d - n * up d * down e) (down e * down d)
+unfolding sub add neg sum
+difference m e n d h = rw (le-ltb (m * up e * down d) (n * up d * down e) h)
 
-scaled_mod : (a b c : ℕ) → 0 < b → 0 < c → a * c % (b * c) ≡ a % b * c
-scaled_mod a b c h z =
-    let r = a % b in
-    let q = a / b in
-    let l : r < b = mod-lt a h in
-    let e : a ≡ r + q * b = omega arith in
-    let whole : a * c ≡ r * c + q * (b * c) = omega (arith, ap (λ (x : ℕ). x * c) e) in
-    ap (λ (x : ℕ). x % (b * c)) whole ∙ add-mul-mod_self_right (r * c) q (b * c) ∙ mod-eq_of_lt (mul-lt-mul_of_pos_right l z)
-
--- ---- below 1 in size
-
-below_whole : (p q a k : ℕ) → p * k ≡ a * q → a < k → 0 < q → p < q
-below_whole p q a k h l z =
-    lt_of_not-le
-    (λ (g : q ≤ p). let e = mul-le-mul_right k g in
-    let i : k * q ≤ a * q = omega arith in
-    not-le_of_lt l (le_of_mul-le-mul_right i z))
-
--- the remainder of p / q, which is below 1, rounds the same fraction
-same_small : (s : Bool) (p q : ℕ) → p < q → 0 < q → (x y : ℕ) → x ≡ p → y ≡ q
-    → round binary64 s x y ≡ round binary64 s (p * 2 ^ 49 % (odd_units * 1 * q)) (q * 2 ^ 49)
-same_small s p q l z x y e f =
-    let m : p * 2 ^ 49 % (odd_units * 1 * q) ≡ p * 2 ^ 49 = mod-eq_of_lt (omega arith) in
-    round_same binary64 s x y (p * 2 ^ 49 % (odd_units * 1 * q)) (q * 2 ^ 49) (omega arith) (mul-pos z (pow_pos 49))
-    (rw (m, e, f) (omega arith))
-
-itself : (v : Float) (s : Bool) (a : ℕ) → HasValue v s a (2 ^ 1074) → a < 2 ^ 1074 → v ⊖ plus_zero ≡ lon_mod_half_pi v
-unfolding lon_mod_half_pi rem sub add neg sum of_bits
-itself nan s a h l = absurd h
-itself (inf t) s a h l = absurd h
-itself (fin true m e) s a h l =
-    let b = below_whole (m * up e) (down e) a (2 ^ 1074) h.1 l (down_pos e) in
-    same_small true (m * up e) (down e) b (down_pos e) (m * up e * 1 + 0 * 1 * down e) (down e * 1) (omega arith) (omega arith)
-itself (fin false m e) s a h l =
-    let b = below_whole (m * up e) (down e) a (2 ^ 1074) h.1 l (down_pos e) in
-    rw (le-ltb (m * up e * 1) (0 * 1 * down e) (omega arith))
-    (same_small false (m * up e) (down e) b (down_pos e) (m * up e * 1 - 0 * 1 * down e) (down e * 1) (omega arith) (omega arith))
-
--- ---- from 1 on
-
--- p / q, which is x units, leaves what x does
-left_of : (s : Bool) (p q x : ℕ) → 0 < q → p * 2 ^ 52 ≡ x * q
-    → round binary64 s (p * 2 ^ 49 % (odd_units * 1 * q)) (q * 2 ^ 49) ≡ round binary64 s (x % half_pi_units) (2 ^ 52)
-left_of s p q x z h =
-    let r = p * 2 ^ 49 % (odd_units * 1 * q) in
-    let e : r * 8 ≡ x % half_pi_units * q =
-    sym (scaled_mod (p * 2 ^ 49) (odd_units * 1 * q) 8 (omega arith) (lit≤ tt))
-    ∙ ap (λ (y : ℕ). y % (odd_units * 1 * q * 8)) (omega arith)
-    ∙ ap (λ (y : ℕ). x * q % y) (omega arith)
-    ∙ scaled_mod x half_pi_units q (lit≤ tt) z in
-    round_same binary64 s r (q * 2 ^ 49) (x % half_pi_units) (2 ^ 52) (mul-pos z (pow_pos 49)) (pow_pos 52) (omega (arith, ap (λ (y : ℕ). y * 2 ^ 49) e))
-
--- in units of 2 ^ -1074 it has 1022 places more
-in_units : (p q m k : ℕ) → p * 2 ^ 1074 ≡ m * 2 ^ (k + 1022) * q → p * 2 ^ 52 ≡ m * 2 ^ k * q
-in_units p q m k h =
-    eq_of_mul-eq-mul_right (2 ^ 1022) (pow_pos 1022) (p * 2 ^ 52) (m * 2 ^ k * q)
-    (mul_assoc p (2 ^ 52) (2 ^ 1022) ∙ h ∙ ap (λ (y : ℕ). m * y * q) (pow-add 2 k 1022) ∙ spread (2 ^ k) (2 ^ 1022))
+-- a / c − b / c and x / l − y / l, where a / c is x / l and b / c is y / l
+same_fraction : (a b x y d l c : ℕ) → b ≤ a → y ≤ x → a * l ≡ x * c → b * l ≡ y * c → (a - b) * (d * l) ≡ (x - y) * (d * c)
+same_fraction a b x y d l c h k e f = go (a - b) (x - y) (omega arith) (omega arith)
   where
-    spread : (x y : ℕ) → m * (x * y) * q ≡ m * x * q * y
-    spread x y = omega arith
+    go : (t u : ℕ) → t + b ≡ a → u + y ≡ x → t * (d * l) ≡ u * (d * c)
+    go t u p q =
+        let i : t * l ≡ u * c = let r = ap (λ (z : ℕ). z * l) p in let s = ap (λ (z : ℕ). z * c) q in omega arith in
+        let j = ap (λ (z : ℕ). d * z) i in
+        omega arith
 
-left : (v : Float) (s : Bool) (m k : ℕ) → HasValue v s (m * 2 ^ (k + 1022)) (2 ^ 1074) → lon_mod_half_pi v ≡ round binary64 s (m * 2 ^ k % half_pi_units) (2 ^ 52)
-unfolding lon_mod_half_pi rem of_bits
-left nan s m k h = absurd h
-left (inf t) s m k h = absurd h
-left (fin t n e) s m k h =
-    left_of t (n * up e) (down e) (m * 2 ^ k) (down_pos e) (in_units (n * up e) (down e) m k h.1)
-    ∙ ap (λ (b : Bool). round binary64 b (m * 2 ^ k % half_pi_units) (2 ^ 52)) h.0
+-- the numerator of π/2, over 2 ^ 49
+abbrev M : ℕ
+M = 884279719003555
 
--- a whole number of units
-over_unit : (s : Bool) (m : ℕ) (e : ℤ) (r : ℕ) → m * up e * 1 ≡ r * down e → round binary64 s (m * up e * 1) (1 * 2 ^ 52 * down e) ≡ round binary64 s r (2 ^ 52)
-over_unit s m e r h = round_same binary64 s (m * up e * 1) (1 * 2 ^ 52 * down e) r (2 ^ 52) (mul-pos (pow_pos 52) (down_pos e)) (pow_pos 52) (omega arith)
+module _ (m : ℕ) (e : ℤ) where
+  abbrev x : Float
+  x = fin false m e
 
-value_over : (s : Bool) (u : Float) (r : ℕ) → HasValue u false r 1 → div binary64 u (fin s 1 (pos 52)) ≡ round binary64 s r (2 ^ 52)
-unfolding div
-value_over s nan r h = absurd h
-value_over s (inf t) r h = absurd h
-value_over s (fin true m e) r h = absurd (true≢false h.0)
-value_over true (fin false m e) r h = over_unit true m e r h.1
-value_over false (fin false m e) r h = over_unit false m e r h.1
+  abbrev X : ℕ
+  X = m * up e * 2 ^ 49
 
-pub of_units : (s : Bool) (r : ℕ) → r ≤ 2 ^ 53 → of_int binary64 (pos r) ⊘ fin s 1 (pos 52) ≡ round binary64 s r (2 ^ 52)
-unfolding of_int
-of_units s r l = value_over s (round binary64 false r 1) r (round_whole binary64 false r l)
+  abbrev Y : ℕ
+  Y = M * 1 * down e
 
--- ---- by the fields of a pattern
+  -- n × 2 ^ d is k × (π/2)
+  module _ (k n : ℕ) (d : ℤ) (exact : n * up d * 2 ^ 49 ≡ k * M * down d) where
+    abbrev A : ℕ
+    A = m * up e * down d
 
-fields_below : (s : Bool) (x t : ℕ) → x < 1023 → t < 2 ^ 52 → of_fields binary64 s x t ⊖ plus_zero ≡ lon_mod_half_pi (of_fields binary64 s x t)
-unfolding of_fields
-fields_below s zero t h l =
-    itself (odd 53 s t 0 1074) s (t * 2 ^ 0) (odd_sign 53 s t 0 1074) (lt_of_lt_of_le (shl_lt 52 0 l) (pow_mono {i = 52 + 0} {j = 1074} (lit≤ tt)))
-fields_below s (suc x) t h l =
-    rw (ne_eqb (suc x) 2047 (omega arith))
-    (itself (odd 53 s (2 ^ 52 + t) x 1074) s ((2 ^ 52 + t) * 2 ^ x) (odd_sign 53 s (2 ^ 52 + t) x 1074)
-    (lt_of_lt_of_le (shl_lt 53 x (omega arith)) (pow_mono {i = 53 + x} {j = 1074} (omega arith))))
+    abbrev B : ℕ
+    B = n * up d * down e
 
-fields_left : (s : Bool) (x t : ℕ) → 1023 ≤ x → x < 2047 → t < 2 ^ 52
-    → lon_mod_half_pi (of_fields binary64 s x t) ≡ round binary64 s ((t + 2 ^ 52) * 2 ^ (x - 1023) % half_pi_units) (2 ^ 52)
-unfolding of_fields
-fields_left s zero t g h l = absurd (omega arith)
-fields_left s (suc x) t g h l =
-    rw (ne_eqb (suc x) 2047 (omega arith))
-    (left (odd 53 s (2 ^ 52 + t) x 1074) s (t + 2 ^ 52) (suc x - 1023)
-    (subst (λ (y : ℕ). HasValue (odd 53 s (2 ^ 52 + t) x 1074) s y (2 ^ 1074))
-    (ap (λ (y : ℕ). y * 2 ^ x) (omega arith) ∙ ap (λ (y : ℕ). (t + 2 ^ 52) * 2 ^ y) (omega arith))
-    (odd_sign 53 s (2 ^ 52 + t) x 1074)))
+    scaled : B * 2 ^ 49 ≡ k * Y * down d
+    scaled = let s = ap (λ (z : ℕ). z * down e) exact in omega arith
 
-special : (s b : Bool) → lon_mod_half_pi (cond b (inf s) nan) ≡ nan
-unfolding lon_mod_half_pi rem of_bits
-special s true = refl
-special s false = refl
+    contained : B ≤ A → k * Y ≤ X
+    contained h = le_of_mul-le-mul_right (let s = scaled in let t = mul-le-mul_right (2 ^ 49) h in omega arith) (down_pos d)
 
-pub below_1 : (b : ℕ) → b % 2 ^ 63 / 2 ^ 52 < 1023 → of_bits binary64 b ⊖ plus_zero ≡ lon_mod_half_pi (of_bits binary64 b)
-unfolding of_bits
-below_1 b h = fields_below (leb (2 ^ 63) b) (b % 2 ^ 63 / 2 ^ 52) (b % 2 ^ 52) h (mod-lt b (pow_pos 52))
+    less_turns : B ≤ A → X < k * Y + Y → sub binary64 x (fin false n d) ≡ rem binary64 x half_pi
+    unfolding rem of_bits
+    less_turns h l =
+        difference m e n d h
+        ∙ round_same binary64 false (A - B) (down e * down d) (X - k * Y) (down e * 2 ^ 49)
+        (mul-pos (down_pos e) (down_pos d)) (mul-pos (down_pos e) (pow_pos 49))
+        (same_fraction A B X (k * Y) (down e) (2 ^ 49) (down d) h (contained h) (omega arith) scaled)
+        ∙ ap (λ (z : ℕ). round binary64 false z (down e * 2 ^ 49)) (sym (left_over X Y k (contained h) l))
 
-pub no_number : (b : ℕ) → b % 2 ^ 63 / 2 ^ 52 ≡ 2047 → lon_mod_half_pi (of_bits binary64 b) ≡ nan
-unfolding of_bits of_fields
-no_number b h = rw h (special (leb (2 ^ 63) b) (eqb (b % 2 ^ 52) 0))
+  -- where n × 2 ^ d is not in x
+  short : (n : ℕ) (d : ℤ) → le (fin false n d) x ≡ false → m * up e * down d < n * up d * down e
+  short n d h = lt_of_not-le (λ (b : n * up d * down e ≤ m * up e * down d). subst T h (below→le (fin false n d) x tt tt (omega arith)))
 
-pub from_1 : (b : ℕ) → 1023 ≤ b % 2 ^ 63 / 2 ^ 52 → b % 2 ^ 63 / 2 ^ 52 < 2047
-    → lon_mod_half_pi (of_bits binary64 b) ≡ round binary64 (leb (2 ^ 63) b) ((b % 2 ^ 52 + 2 ^ 52) * 2 ^ (b % 2 ^ 63 / 2 ^ 52 - 1023) % half_pi_units) (2 ^ 52)
-unfolding of_bits
-from_1 b g h = fields_left (leb (2 ^ 63) b) (b % 2 ^ 63 / 2 ^ 52) (b % 2 ^ 52) g h (mod-lt b (pow_pos 52))
+  long : (n : ℕ) (d : ℤ) → le (fin false n d) x ≡ true → n * up d * down e ≤ m * up e * down d
+  long n d h = let l = le→below (fin false n d) x tt tt (rw h tt) in omega arith
+
+  -- of no sign, and below 2π
+  unsigned : lt x two_pi ≡ true → x ⊖ of_nat (quarter_turns x) ⊗ half_pi ≡ rem binary64 x half_pi
+  unfolding quarter_turns of_bits of_int mul lt
+  unsigned h = by (le (of_nat 3 ⊗ half_pi) x) (le (of_nat 2 ⊗ half_pi) x) (le (of_nat 1 ⊗ half_pi) x) refl refl refl
+    where
+      by : (a b c : Bool) → le (of_nat 3 ⊗ half_pi) x ≡ a → le (of_nat 2 ⊗ half_pi) x ≡ b → le (of_nat 1 ⊗ half_pi) x ≡ c
+          → x ⊖ of_nat (cond a 3 (cond b 2 (cond c 1 0))) ⊗ half_pi ≡ rem binary64 x half_pi
+      by true b c p q r =
+          let l = ltb→lt (m * up e * 2 ^ 47) (M * 1 * down e) (rw h tt) in
+          less_turns 3 2652839157010665 (negsuc 48) refl (long 2652839157010665 (negsuc 48) p) (omega arith)
+      by false true c p q r =
+          let l = short 2652839157010665 (negsuc 48) p in
+          less_turns 2 M (negsuc 47) refl (long M (negsuc 47) q) (omega arith)
+      by false false true p q r =
+          let l = short M (negsuc 47) q in
+          less_turns 1 M (negsuc 48) refl (long M (negsuc 48) r) (omega arith)
+      by false false false p q r =
+          let l = short M (negsuc 48) r in
+          less_turns 0 0 (pos 0) refl (omega arith) (omega arith)
+
+-- −0
+module _ (m : ℕ) (e : ℤ) (none : m * up e ≡ 0) where
+  not_in_zero : (n : ℕ) (d : ℤ) → 0 < n * up d → le (fin false n d) (fin true m e) ≡ true → ⊥
+  not_in_zero n d p h =
+      let l = le→below (fin false n d) (fin true m e) tt tt (rw h tt) in
+      let q = mul-pos p (down_pos e) in
+      omega arith
+
+  same_zero : fin true m e ⊖ fin false 0 (pos 0) ≡ rem binary64 (fin true m e) half_pi
+  unfolding sub add neg sum rem of_bits
+  same_zero =
+      let z : m * up e * 2 ^ 49 % (M * 1 * down e) ≡ 0 = ap (λ (t : ℕ). t * 2 ^ 49 % (M * 1 * down e)) none ∙ zero-mod (M * 1 * down e) in
+      round_same binary64 true (m * up e * 1 + 0 * 1 * down e) (down e * 1) (m * up e * 2 ^ 49 % (M * 1 * down e)) (down e * 2 ^ 49)
+      (mul-pos (down_pos e) (lit≤ tt)) (mul-pos (down_pos e) (pow_pos 49))
+      (rw (z, none) (omega arith))
+
+  minus_zero : fin true m e ⊖ of_nat (quarter_turns (fin true m e)) ⊗ half_pi ≡ rem binary64 (fin true m e) half_pi
+  unfolding quarter_turns of_bits of_int mul
+  minus_zero = by (le (of_nat 3 ⊗ half_pi) (fin true m e)) (le (of_nat 2 ⊗ half_pi) (fin true m e)) (le (of_nat 1 ⊗ half_pi) (fin true m e)) refl refl refl
+    where
+      by : (a b c : Bool) → le (of_nat 3 ⊗ half_pi) (fin true m e) ≡ a → le (of_nat 2 ⊗ half_pi) (fin true m e) ≡ b → le (of_nat 1 ⊗ half_pi) (fin true m e) ≡ c
+          → fin true m e ⊖ of_nat (cond a 3 (cond b 2 (cond c 1 0))) ⊗ half_pi ≡ rem binary64 (fin true m e) half_pi
+      by true b c p q r = absurd (not_in_zero 2652839157010665 (negsuc 48) (lit≤ tt) p)
+      by false true c p q r = absurd (not_in_zero M (negsuc 47) (lit≤ tt) q)
+      by false false true p q r = absurd (not_in_zero M (negsuc 48) (lit≤ tt) r)
+      by false false false p q r = same_zero
+
+of_number : (x : Float) → T (le plus_zero x) → T (lt x two_pi) → x ⊖ of_nat (quarter_turns x) ⊗ half_pi ≡ rem binary64 x half_pi
+unfolding le lt of_bits
+of_number nan h k = absurd h
+of_number (inf true) h k = absurd h
+of_number (inf false) h k = absurd k
+of_number (fin false m e) h k = unsigned m e (is_true (lt (fin false m e) two_pi) k)
+of_number (fin true m e) h k = minus_zero m e (let l = le→below plus_zero (fin true m e) tt tt h in omega arith)
+
+of_nan : nan ⊖ of_nat (quarter_turns nan) ⊗ half_pi ≡ rem binary64 nan half_pi
+unfolding sub add rem
+of_nan = refl
+
+pub by_turns : (lon : Float) → InTurn lon → lon ⊖ of_nat (quarter_turns lon) ⊗ half_pi ≡ lon_mod_half_pi lon
+unfolding lon_mod_half_pi is_longitude
+by_turns lon =
+    ⊎_elim
+    (λ h. rw h of_nan)
+    (λ h. let t : T (le plus_zero lon && lt lon two_pi) = rw h tt in
+    of_number lon (and_l (le plus_zero lon) (lt lon two_pi) t) (and_r (le plus_zero lon) (lt lon two_pi) t))

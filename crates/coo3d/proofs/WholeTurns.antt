@@ -17,11 +17,7 @@ use Rattle.coo3d.specs.Quarters.{quarter_of}
 use Rattle.coo3d.specs.WholeTurns.{WholeTurns, last_of_turn}
 use Rattle.coo3d.specs.declared.vect3.Vect3.{Vect3}
 use Rattle.coo3d.specs.declared.lonlat.LonLat.{LonLat}
-use Rattle.coo3d.proofs.LastOfTurn.{up_to_last, longitude_in_turn, quarter_in_turn, quarter_of_nan}
-
--- an f64 in the turn, which may be the NaN
-abbrev InTurnF64 : Float → Type 0
-InTurnF64 lon = (lon ≡ nan) ⊎ Within plus_zero last_of_turn lon
+use Rattle.coo3d.proofs.LastOfTurn.{InTurnF64, up_to_last, of_f64, longitude_in_turn, quarter_in_turn, quarter_of_nan}
 
 -- ---- the longitude
 
@@ -98,10 +94,6 @@ up_to_half a w = by (eq a two_pi) refl
 
 quarter_of_lem : {lon : Float} → InTurnF64 lon → quarter_of lon < 4
 quarter_of_lem = ⊎_elim (λ h. rw h quarter_of_nan) quarter_in_turn
-
-of_f64 : (lon : Float) → T (fits binary64 lon) → InTurn lon → InTurnF64 lon
-unfolding is_longitude
-of_f64 lon f = ⊎_elim inl (λ h. inr (up_to_last f (and_l (le plus_zero lon) (lt lon two_pi) (rw h tt)) (and_r (le plus_zero lon) (lt lon two_pi) (rw h tt))))
 
 of_vec3 : (x y z : Float) → quarter_of (from_vec3 x y z).lon < 4
 unfolding from_vec3 lon_lat_of

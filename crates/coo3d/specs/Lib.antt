@@ -3,3 +3,4 @@ pub mod LonLats
 pub mod Points
 pub mod Quarters
 pub mod WholeTurns
+pub mod RememberedQuarters

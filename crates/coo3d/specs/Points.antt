@@ -1,5 +1,5 @@
--- A point is a record of five floats, x, y, z, longitude and latitude (document 01, "Points"). Definitions, and a claim on heights; `proofs/Heights.antt`
--- proves it.
+-- A point is a record of five floats, x, y, z, longitude and latitude (document 01, "Points"), and of what its longitude gives: the quarter and the longitude
+-- modulo π/2, for "the point record shall hold both" (document 02, ask 8). Definitions, and a claim on heights; `proofs/Heights.antt` proves it.
 use Rattle.std.specs.Float.Ieee.{neg}
 use Rattle.std.specs.Prelude.{◌≡◌, true, cond, ◌&&◌, Float}
 use Rattle.angles.specs.Floats.{one}
@@ -8,9 +8,11 @@ use Rattle.coo3d.specs.declared.vect3.Vect3.{Vect3}
 use Rattle.coo3d.specs.declared.point.Coo3D.{Coo3D}
 use Rattle.coo3d.specs.Vectors.{vect}
 use Rattle.coo3d.specs.LonLats.{is_longitude, is_latitude, lon_lat_of, vec3_of}
+use Rattle.coo3d.specs.Quarters.{quarter_of, lon_mod_half_pi}
 
 abbrev pub coo3_d : Float → Float → Float → Float → Float → Coo3D
-coo3_d a b c l m = record { x = a; y = b; z = c; lon = l; lat = m }
+coo3_d a b c l m =
+    record { x = a; y = b; z = c; lon = l; lat = m; quarter = quarter_of l; lon_mod = lon_mod_half_pi l }
 
 -- from a vector
 unfoldable pub from_vec3 : Float → Float → Float → Coo3D

@@ -9,10 +9,6 @@ use Rattle.angles.specs.Constants.{half_pi}
 unfoldable pub quarter_of : Float → ℕ
 quarter_of lon = to_unsigned 8 (lon ⊘ half_pi)
 
--- π/2 as a float is so many times 2 ^ -52 (`units_are` in proofs/Remainders.antt)
-abbrev pub half_pi_units : ℕ
-half_pi_units = 7074237752028440
-
 -- the longitude modulo π/2, which is exact
 unfoldable pub lon_mod_half_pi : Float → Float
 lon_mod_half_pi lon = rem binary64 lon half_pi

@@ -1,6 +1,6 @@
 -- Vectors of the source's coo3d.rs (document 01, "Points"), each expression in its grouping. Definitions only.
 use Rattle.std.specs.Float.Ieee.{neg, le}
-use Rattle.std.specs.Prelude.{cond, Float}
+use Rattle.std.specs.Prelude.{Bool, cond, Float}
 use Rattle.root.specs.Root.{root_of}
 use Rattle.angles.specs.Floats.{◌⊕◌, ◌⊖◌, ◌⊗◌, ◌⊘◌, one, abs_of}
 use Rattle.angles.specs.Constants.{epsilon}
@@ -27,11 +27,15 @@ divided_by v n = vect (v.x ⊘ n) (v.y ⊘ n) (v.z ⊘ n)
 unfoldable pub normalized_of : Vect3 → Vect3
 normalized_of v = divided_by v (norm_of v)
 
--- `UnitVect3::new` divides by the norm again unless the squared norm is within 2⁻⁵² of 1 (a NaN isn't)
+-- the squared norm is within 2⁻⁵² of 1 (a NaN isn't)
+unfoldable pub is_unit : Vect3 → Bool
+is_unit v = le (abs_of (squared_norm_of v ⊖ one)) epsilon
+
+-- `UnitVect3::new` divides by the norm again unless the vector `is_unit`
 unfoldable pub new_unit : Float → Float → Float → Vect3
 new_unit a b c =
     let v = vect a b c in
-    cond (le (abs_of (squared_norm_of v ⊖ one)) epsilon) v (divided_by v (root_of (squared_norm_of v)))
+    cond (is_unit v) v (normalized_of v)
 
 -- `opposite` passes through `UnitVect3::new`
 unfoldable pub opposite_of : Vect3 → Vect3

@@ -4,6 +4,6 @@
 
 pub mod lonlat;
 pub mod point;
-pub mod quarter;
+mod quarter;
 pub mod regions;
 pub mod vect3;

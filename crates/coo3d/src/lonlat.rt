@@ -1,10 +1,13 @@
 // Longitude and latitude: their ranges, those of a vector, and the vector of both.
 
-ghost use Rattle.std.specs.Prelude.{◌≡◌};
+ghost use Rattle.std.specs.Float.Ieee.{neg};
+ghost use Rattle.std.specs.Prelude.{◌≡◌, Float};
+ghost use Rattle.angles.specs.Inverse.{atan2_of};
 ghost use Rattle.coo3d.specs.LonLats.{is_longitude, is_latitude, lon_of, InTurn, lat_of, lon_lat_of, vec3_of};
 
 use super::point::Coo3D;
 use super::vect3::Vect3;
+use angles::inverse::OfOpposites;
 use angles::{circular, inverse};
 
 #[derive(Clone, Copy)]
@@ -28,15 +31,31 @@ pub fn is_latitude(lat: f64) -> bool
 }
 
 // The sum of a tiny negative angle and 2π rounds to 2π: the longitude is then 0.
-pub fn lon_of(x: f64, y: f64) -> f64
-    ensures { (result ≡ lon_of x y) × InTurn result }
+fn lon_of_angle(a: f64) -> f64
+    ensures { (x y : Float) → a ≡ atan2_of y x → (result ≡ lon_of x y) × InTurn result }
 {
-    let a = inverse::atan2(y, x);
     if a < 0.0 {
         let lon = a + Coo3D::TWO_PI;
         if lon == Coo3D::TWO_PI { 0.0 } else { lon }
     } else {
         a
+    }
+}
+
+pub fn lon_of(x: f64, y: f64) -> f64
+    ensures { (result ≡ lon_of x y) × InTurn result }
+{
+    lon_of_angle(inverse::atan2(y, x))
+}
+
+// The longitudes of (x, y) and of (-x, -y).
+pub fn lon_of_opposites(x: f64, y: f64) -> OfOpposites
+    ensures { (result.own ≡ lon_of x y) × (result.opposite ≡ lon_of (neg x) (neg y)) }
+{
+    let a = inverse::atan2_of_opposites(y, x);
+    OfOpposites {
+        own: lon_of_angle(a.own),
+        opposite: lon_of_angle(a.opposite),
     }
 }
 

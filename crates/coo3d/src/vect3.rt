@@ -1,7 +1,7 @@
 // One vector type, for the source's Vect3 and UnitVect3.
 
 ghost use Rattle.std.specs.Prelude.{◌≡◌};
-ghost use Rattle.coo3d.specs.Vectors.{dot_of, cross_of, squared_norm_of, norm_of, divided_by, normalized_of, new_unit, opposite_of};
+ghost use Rattle.coo3d.specs.Vectors.{dot_of, cross_of, squared_norm_of, norm_of, divided_by, normalized_of, is_unit, new_unit, opposite_of};
 
 use angles::float;
 
@@ -63,18 +63,20 @@ impl Vect3 {
         self.divided_by(self.norm())
     }
 
+    #[tactic(auto, unfolding(crate::specs::Vectors::is_unit))]
+    pub fn is_unit(self) -> bool
+        ensures { result ≡ is_unit self }
+    {
+        float::abs(self.squared_norm() - 1.0) <= f64::EPSILON
+    }
+
     // The source's UnitVect3::new, with its three parameters.
     #[tactic(auto, unfolding(crate::specs::Vectors::new_unit))]
     pub fn new_unit(x: f64, y: f64, z: f64) -> Vect3
         ensures { result ≡ new_unit x y z }
     {
         let v = Vect3 { x, y, z };
-        let norm2 = v.squared_norm();
-        if float::abs(norm2 - 1.0) <= f64::EPSILON {
-            v
-        } else {
-            v.divided_by(root::root(norm2))
-        }
+        if v.is_unit() { v } else { v.normalized() }
     }
 
     #[tactic(auto, unfolding(crate::specs::Vectors::opposite_of))]

@@ -8,7 +8,7 @@ use Rattle.angles.specs.Floats.{abs_of, sign_of, signed_of, finite_of}
 use Rattle.angles.specs.Constants.{meridian_limit, short_limit}
 use Rattle.angles.specs.Inverse.{horner, half_angle, arctangent_of, first_quadrant, reflected_of, atan2_of}
 use Rattle.angles.specs.Circular.{◌!, sine_series, cosine_series, within_quarter_turn, quarter_turns, turned_by, signed_sine, sin_cos_of}
-use Rattle.coo3d.specs.Vectors.{dot_of, cross_of, squared_norm_of, norm_of, divided_by, normalized_of, new_unit}
+use Rattle.coo3d.specs.Vectors.{dot_of, cross_of, squared_norm_of, norm_of, divided_by, normalized_of, is_unit, new_unit}
 use Rattle.coo3d.specs.LonLats.{vec3_of}
 use Rattle.crossing.specs.declared.great_arc.GreatArc.{GreatArc}
 use Rattle.crossing.specs.declared.parallel.Rule.TheVariants.{NearMeridian, ShortArc}
@@ -58,7 +58,7 @@ rule_order =
     }
 
 pub rule_order_examples : RuleOrderExamples
-unfolding may_change rule_of rule_before crossing_of crossing_by by_rule strictly_between near_meridian short_arc first_that_passes great_arc passes_of vec3_of sin_cos_of quarter_turns turned_by signed_sine within_quarter_turn sine_series cosine_series dot_of cross_of norm_of squared_norm_of normalized_of divided_by new_unit atan2_of signed_of sign_of reflected_of first_quadrant arctangent_of half_angle horner finite_of root_of abs_of ◌! of_bits of_int neg add sub mul div lt le ne
+unfolding may_change rule_of rule_before crossing_of crossing_by by_rule strictly_between near_meridian short_arc first_that_passes great_arc passes_of vec3_of sin_cos_of quarter_turns turned_by signed_sine within_quarter_turn sine_series cosine_series dot_of cross_of norm_of squared_norm_of normalized_of divided_by is_unit new_unit atan2_of signed_of sign_of reflected_of first_quadrant arctangent_of half_angle horner finite_of root_of abs_of ◌! of_bits of_int neg add sub mul div lt le ne
 rule_order_examples =
     record {
       neither_holds = refl;

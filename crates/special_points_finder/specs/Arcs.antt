@@ -1,5 +1,6 @@
 -- Document 01, "Jobs and replies": the five slots of an arc: south cap first and second, equator, north cap first and second. Definitions only.
 use Rattle.std.specs.Prelude.{Float, ℕ, Option, None, Some, Result, Ok, Err}
+use Rattle.coo3d.specs.Points.{vect_of}
 use Rattle.coo3d.specs.declared.regions.Cap.{Cap}
 use Rattle.coo3d.specs.declared.regions.Regions.{Regions}
 use Rattle.plans.specs.Plans.{cap_plan, slot_at, cap_slots_at}
@@ -19,7 +20,7 @@ plan_in_pc (Some p) precision = arc_plan_in_pc p.from p.to precision
 
 unfoldable pub plan_in_eqr : Option Piece → Float → Plan
 plan_in_eqr None precision = NoPiece
-plan_in_eqr (Some p) precision = arc_plan_in_eqr p.from p.to precision
+plan_in_eqr (Some p) precision = arc_plan_in_eqr (vect_of p.from) (vect_of p.to) precision
 
 -- the plans of the five slots
 abbrev pub ArcPlan : Type 0

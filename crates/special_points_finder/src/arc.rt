@@ -1,7 +1,8 @@
 // The special points of an arc: each of its pieces is searched, after all the crossings that split it.
 
-ghost use Rattle.std.specs.Prelude.{◌≡◌};
-ghost use Rattle.splits.specs.Splits.{split_of};
+ghost use Rattle.std.specs.Prelude.{◌≡◌, true};
+ghost use Rattle.coo3d.specs.Points.{vect_of};
+ghost use Rattle.splits.specs.Splits.{inside_eqr, split_of};
 ghost use Rattle.plans.specs.Plans.{slot_at, cap_slots_at};
 ghost use Rattle.special_points_finder.specs.Arcs.{plan_in_pc, plan_in_eqr, arc_plan, slots_at, arc_at};
 
@@ -10,6 +11,7 @@ use answers::answer::{Answer, Slot, Slots};
 use caps::cap;
 use coo3d::point::Coo3D;
 use coo3d::regions::{Cap, Regions};
+use coo3d::vect3::Vect3;
 use plans::plan::Settings;
 use splits::split;
 use splits::split::{Piece, Pieces, Unsplit};
@@ -33,7 +35,11 @@ fn slot_in_eqr(piece: Option<Piece>, settings: Settings) -> Slot
 {
     match piece {
         None => Slot::without_walk(Answer::NoPiece),
-        Some(p) => equator::arc_special_point_in_eqr(p.from, p.to, settings),
+        Some(p) => equator::arc_special_point_in_eqr(
+            Vect3::from(p.from),
+            Vect3::from(p.to),
+            settings,
+        ),
     }
 }
 
@@ -45,6 +51,24 @@ fn slots(pieces: Pieces, settings: Settings) -> Slots
         south: slots_in_pc(pieces.south, settings),
         equator: slot_in_eqr(pieces.equator, settings),
         north: slots_in_pc(pieces.north, settings),
+    }
+}
+
+// The slots of an arc inside the equatorial region. No points are made of its ends: any two points with these vectors have these slots.
+pub fn slots_inside_eqr(v1: Vect3, v2: Vect3, settings: Settings) -> Slots
+    requires { (inside_eqr v1.z ≡ true) × (inside_eqr v2.z ≡ true) }
+    ensures { (p1 p2 : Coo3D) → vect_of p1 ≡ v1 → vect_of p2 ≡ v2
+        → Ok result ≡ arc_at settings.allowance (split_of p1 p2) settings.precision }
+{
+    let equator = if v1.z > v2.z {
+        equator::arc_special_point_in_eqr(v2, v1, settings)
+    } else {
+        equator::arc_special_point_in_eqr(v1, v2, settings)
+    };
+    Regions {
+        south: slots_in_pc(None, settings),
+        equator,
+        north: slots_in_pc(None, settings),
     }
 }
 

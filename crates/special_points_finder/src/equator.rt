@@ -6,7 +6,6 @@ ghost use Rattle.plans.specs.Plans.{slot_at};
 
 use angles::float;
 use answers::answer::Slot;
-use coo3d::point::Coo3D;
 use coo3d::vect3::Vect3;
 use crossing::great_arc::GreatArc;
 use newton::walk::Start;
@@ -15,10 +14,10 @@ use plans::ending::Ending;
 use plans::plan::{Plan, Settings};
 
 #[tactic(auto, unfolding(crate::specs::Equator::arc_plan_in_eqr))]
-fn arc_plan_in_eqr(p1: Coo3D, p2: Coo3D, precision: f64) -> Plan
+fn arc_plan_in_eqr(p1: Vect3, p2: Vect3, precision: f64) -> Plan
     ensures { result ≡ arc_plan_in_eqr p1 p2 precision }
 {
-    let arc = GreatArc::new(Vect3::from(p1), Vect3::from(p2));
+    let arc = GreatArc::new(p1, p2);
     let s = region::slope_in_eqr(arc.normal.z);
     if slope::have_same_sign(s.slope(p1.z), s.slope(p2.z)) {
         return Plan::NoWalk;
@@ -33,7 +32,7 @@ fn arc_plan_in_eqr(p1: Coo3D, p2: Coo3D, precision: f64) -> Plan
     }
 }
 
-pub fn arc_special_point_in_eqr(p1: Coo3D, p2: Coo3D, settings: Settings) -> Slot
+pub fn arc_special_point_in_eqr(p1: Vect3, p2: Vect3, settings: Settings) -> Slot
     ensures { result ≡ slot_at settings.allowance (arc_plan_in_eqr p1 p2 settings.precision) }
 {
     arc_plan_in_eqr(p1, p2, settings.precision).slot(settings.allowance)

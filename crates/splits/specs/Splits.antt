@@ -1,7 +1,8 @@
 -- Document 01, "Refusals", 10: the split of an arc at −T and T, before any walk, by the cases of the source's `arc_special_points`. Definitions and
--- a claim.
-use Rattle.std.specs.Prelude.{Float, ◌≡◌, ◌⊎◌, ◌↔◌, Bool, true, cond, not, ◌&&◌, Option, None, Some, option_map, unwrap_or, Result, Ok, Err}
+-- claims.
+use Rattle.std.specs.Prelude.{Float, ◌≡◌, ◌⊎◌, ◌↔◌, Bool, true, false, cond, not, ◌&&◌, Option, None, Some, option_map, unwrap_or, Result, Ok, Err}
 use Rattle.std.specs.Float.Ieee.{neg, lt, le}
+use Rattle.angles.specs.Floats.{plus_zero}
 use Rattle.angles.specs.Constants.{transition_z}
 use Rattle.bounds.specs.Ranges.{is_number}
 use Rattle.coo3d.specs.Points.{point_of, vect_of}
@@ -93,12 +94,29 @@ split_ordered p1 p2 =
 unfoldable pub split_of : Coo3D → Coo3D → Split
 split_of p1 p2 = cond (lt p2.z p1.z) (split_ordered p2 p1) (split_ordered p1 p2)
 
+-- A height inside the equatorial region, strictly between −T and T. Document 02, ask 8: of an arc with both ends there no points are made. (That a walk's height is accepted there says the
+-- same of another height: `accepted_eqr` in plans.)
+unfoldable pub inside_eqr : Float → Bool
+inside_eqr z = lt (neg transition_z) z && lt z transition_z
+
 -- the ends from the lower one up
 abbrev pub lower_end : Coo3D → Coo3D → Coo3D
 lower_end p1 p2 = cond (lt p2.z p1.z) p2 p1
 
 abbrev pub upper_end : Coo3D → Coo3D → Coo3D
 upper_end p1 p2 = cond (lt p2.z p1.z) p1 p2
+
+-- With both ends inside the equatorial region an arc is one piece there. `proofs/Inside.antt` proves it.
+abbrev pub OnePieceInside : Type 0
+OnePieceInside =
+    (p1 p2 : Coo3D) → inside_eqr p1.z ≡ true → inside_eqr p2.z ≡ true
+    → split_of p1 p2 ≡ Ok (split_into None (Some (piece (lower_end p1 p2) (upper_end p1 p2))) None)
+
+pub record InsideExamples : Type 0 where
+  -- the equator is inside, T is not; and an arc along the parallel at T is one piece in the north
+  pub equator : inside_eqr plus_zero ≡ true
+  pub transition : inside_eqr transition_z ≡ false
+  pub along_transition : (p1 p2 : Coo3D) → p1.z ≡ transition_z → p2.z ≡ transition_z → split_of p1 p2 ≡ Ok (split_into None None (Some (piece p1 p2)))
 
 -- The crossing with the parallel at z, of the arc from p1 up to p2, is needed to split it, as z lies strictly between their heights; and it is of kind 5.
 pub record NeededOfKind5 (z : Float) (p1 p2 : Coo3D) : Type 0 where

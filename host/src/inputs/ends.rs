@@ -478,6 +478,10 @@ fn on_borders(random: &mut Random) -> Ends {
     }
 }
 
+pub fn on_borders_or_boundaries(random: &mut Random) -> Ends {
+    random.one_of(&[on_borders, boundary_values])(random)
+}
+
 /// Over a border, within a cap, with a length of chance on either side.
 fn across_borders(random: &mut Random) -> Ends {
     let border = random.below(4) as f64 * FRAC_PI_2;

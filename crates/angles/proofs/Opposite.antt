@@ -1,0 +1,45 @@
+-- A number and its negative have the same size and, where they are numbers, opposite signs.
+use lib.Ieee.{Float, nan, inf, fin, neg}
+use mathlib.Core.Path.{◌≡◌, refl}
+use mathlib.Core.Bool.{Bool, true, false, not, ◌&&◌, false≢true}
+use Rattle.angles.specs.Floats.{sign_of, finite_of, abs_of, signed_of}
+use Rattle.angles.specs.Inverse.{reflected_of, first_quadrant, atan2_of}
+
+same_finite : (x : Float) → finite_of (neg x) ≡ finite_of x
+unfolding finite_of neg
+same_finite nan = refl
+same_finite (inf s) = refl
+same_finite (fin s m e) = refl
+
+same_size : (x : Float) → abs_of (neg x) ≡ abs_of x
+unfolding abs_of neg
+same_size nan = refl
+same_size (inf s) = refl
+same_size (fin s m e) = refl
+
+other_sign : (x : Float) → finite_of x ≡ true → sign_of (neg x) ≡ not (sign_of x)
+unfolding sign_of finite_of neg
+other_sign nan h = absurd (false≢true h)
+other_sign (inf s) h = absurd (false≢true h)
+other_sign (fin s m e) h = refl
+
+-- The finite x and y, and any others.
+numbers : (y x : Float) → (finite_of y ≡ true) × (finite_of x ≡ true)
+    → (atan2_of y x ≡ signed_of (sign_of y) (reflected_of (sign_of x) (first_quadrant (abs_of y) (abs_of x))))
+    × (atan2_of (neg y) (neg x) ≡ signed_of (not (sign_of y)) (reflected_of (not (sign_of x)) (first_quadrant (abs_of y) (abs_of x))))
+unfolding atan2_of
+numbers y x h =
+    (rw (h.0, h.1) refl, rw (same_finite y, same_finite x, h.0, h.1, same_size y, same_size x, other_sign y h.0, other_sign x h.1) refl)
+
+both : (a b : Bool) → (a && b) ≡ true → (a ≡ true) × (b ≡ true)
+both true b h = (refl, h)
+both false b h = absurd (false≢true h)
+
+pub of_numbers : (y x : Float) → (finite_of y && finite_of x) ≡ true
+    → (atan2_of y x ≡ signed_of (sign_of y) (reflected_of (sign_of x) (first_quadrant (abs_of y) (abs_of x))))
+    × (atan2_of (neg y) (neg x) ≡ signed_of (not (sign_of y)) (reflected_of (not (sign_of x)) (first_quadrant (abs_of y) (abs_of x))))
+of_numbers y x h = numbers y x (both (finite_of y) (finite_of x) h)
+
+pub of_others : (y x : Float) → (finite_of y && finite_of x) ≡ false → (atan2_of y x ≡ nan) × (atan2_of (neg y) (neg x) ≡ nan)
+unfolding atan2_of
+of_others y x h = (rw h refl, rw (same_finite y, same_finite x, h) refl)
