@@ -8,7 +8,7 @@ mod stack;
 use crate::commands::{ALLOWANCE, PRECISION, REPLY_BUFFER};
 use crate::crossings::Crossings;
 use crate::finder;
-use crate::inputs::{two_arcs, BESIDE_LONGITUDE_0, TWO_ARCS};
+use crate::inputs::{self, two_arcs, ARCS, BESIDE_LONGITUDE_0, TWO_ARCS};
 use crate::job_files::{self, Maker};
 use crate::limits::Limits;
 use crate::outcomes::{print_row, Outcomes};
@@ -16,6 +16,7 @@ use crate::quarters::Quarters;
 use crate::reference::{self, Panic, Slot};
 use crate::rules::{self, Answer, Content, Reply};
 use crate::second_tries::SecondTries;
+use crate::signs::{self, Signs};
 use crate::turns::Turns;
 use depends::Depends;
 use geometry::Geometry;
@@ -38,6 +39,7 @@ struct Tally {
     /// Longitudes that came to 2π.
     turns: u64,
     crossings: Crossings,
+    signs: Signs,
 }
 
 impl Tally {
@@ -50,9 +52,11 @@ impl Tally {
         let turns = reply.whole_turns.iter().flatten();
         self.turns += turns.map(|count| u64::from(*count)).sum::<u64>();
         self.crossings.count(reply);
+        self.signs.count(reply);
     }
 
     fn print(&self, name: &str) {
+        let [nothing, same, not] = self.signs.answers();
         let numbers = [
             self.compared,
             self.differ,
@@ -60,6 +64,9 @@ impl Tally {
             self.unreachable,
             self.unwraps,
             self.turns,
+            nothing,
+            same,
+            not,
         ];
         print_row(name, numbers);
     }
@@ -159,8 +166,9 @@ impl Comparison {
         let mut at = 0;
         for reply in &expected.replies {
             let bytes = self.reply.buffer()[at..at + reply.width()].to_vec();
-            let difference =
-                difference(reply, &bytes).or_else(|| self.geometry.check(&reply.command, &bytes));
+            let difference = difference(reply, &bytes)
+                .or_else(|| self.geometry.check(&reply.command, &bytes))
+                .or_else(|| signs::contradiction(reply));
             let agrees = difference.is_none();
             if !matches!(reply.command.code, PRECISION | ALLOWANCE) {
                 let class = classes.next().copied();
@@ -261,6 +269,9 @@ impl Comparison {
                 "unreachable",
                 "unwraps",
                 "turns",
+                "told 0",
+                "told 1",
+                "told 2",
             ],
         );
         let damaged = "any job, in damaged files".to_string();
@@ -274,6 +285,7 @@ impl Comparison {
         self.limits.print();
         self.second_tries.print();
         self.quarters.print();
+        self.total.signs.print();
         self.total.crossings.print();
         self.geometry.print();
         print_row(
@@ -318,6 +330,8 @@ impl Comparison {
             self.limits.missing(),
             self.second_tries.missing(),
             self.quarters.missing(),
+            self.total.signs.missing(),
+            self.classes_without_answers(),
             self.depends.missing(),
         ];
         [others.concat(), crossings.concat()].concat()
@@ -330,6 +344,16 @@ impl Comparison {
         let missing = classes.flat_map(|((name, _), due)| {
             let name = format!("{TWO_ARCS}, {name}");
             tallies[&name].crossings.missing_of(&name, due)
+        });
+        missing.collect()
+    }
+
+    /// The classes about the limits of signs by order that never got one of its answers.
+    fn classes_without_answers(&self) -> Vec<String> {
+        let tallies: HashMap<_, _> = self.maker.names().into_iter().zip(&self.tallies).collect();
+        let missing = inputs::signs::CLASSES.iter().flat_map(|(name, _)| {
+            let name = format!("{ARCS}, {name}");
+            tallies[&name].signs.missing_of(&name)
         });
         missing.collect()
     }

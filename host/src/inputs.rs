@@ -6,6 +6,7 @@ mod operands;
 pub mod parallels;
 mod second_try;
 mod short;
+pub mod signs;
 pub mod two_arcs;
 
 pub use crate::reference::TRANSITION_Z;
@@ -18,7 +19,8 @@ use crate::rules::{self, Settings};
 
 /// The classes that are made for a longitude of a whole turn.
 pub const BESIDE_LONGITUDE_0: &str = "beside longitude 0";
-/// What the names of the classes of code 07 begin with.
+/// What the names of the classes of code 03 and of code 07 begin with.
+pub const ARCS: &str = "arc";
 pub const TWO_ARCS: &str = "two arcs";
 
 /// Longitude and latitude of one end of an arc, and of the other.
@@ -43,10 +45,10 @@ pub struct Inputs {
 /// Every class: first those whose operands lie within document 01's ranges, then those in which they may not.
 pub fn classes() -> Vec<Inputs> {
     let mut classes = Vec::new();
-    for (name, draw) in ends::CLASSES {
-        classes.push(class("arc", name, move |random| arc(random, draw)));
+    for (name, draw) in ends::CLASSES.into_iter().chain(signs::CLASSES) {
+        classes.push(class(ARCS, name, move |random| arc(random, draw)));
     }
-    classes.push(at_a_step("arc", |random| arc(random, ends::special)));
+    classes.push(at_a_step(ARCS, |random| arc(random, ends::special)));
     for (name, draw) in cones::EQUATORIAL {
         classes.push(class("equatorial cone", name, draw));
     }
@@ -141,6 +143,12 @@ pub fn on_borders(random: &mut Random) -> Command {
 /// An arc that is often tried a second time.
 pub fn tried_again(random: &mut Random) -> Command {
     arc(random, second_try::any)
+}
+
+/// An arc about the limits of signs by order, or one of which they often tell nothing.
+pub fn about_signs(random: &mut Random) -> Command {
+    let draw = random.one_of(&[signs::any, second_try::any, ends::any]);
+    arc(random, draw)
 }
 
 /// An arc between two ends, in either order.

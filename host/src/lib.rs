@@ -35,6 +35,8 @@ pub mod reference;
 pub mod rules;
 #[cfg(reference)]
 pub mod second_tries;
+#[cfg(reference)]
+pub mod signs;
 pub mod squares;
 #[cfg(reference)]
 pub mod stored_answers;

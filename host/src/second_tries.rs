@@ -4,7 +4,9 @@ use crate::commands::Command;
 use crate::outcomes::print_row;
 use crate::pattern;
 use crate::reference::second_try::{self, Middle, Slope, TIMES};
-use crate::reference::{caught, Coo3D, Panic, Vec3, TRANSITION_Z};
+use crate::reference::{
+    caught, Coo3D, Panic, Vec3, FOUND_BY_HALVING, NONE_BY_HALVING, TRANSITION_Z,
+};
 use crate::rules::{lower_first, Reply};
 
 #[derive(Clone, Copy, Debug, PartialEq)]
@@ -88,7 +90,7 @@ impl SecondTries {
 }
 
 fn events(reply: &Reply) -> Vec<Event> {
-    let Some(ends) = &reply.tried_again else {
+    let Some((ends, FOUND_BY_HALVING | NONE_BY_HALVING)) = reply.in_equator() else {
         return Vec::new();
     };
     // One more than the rule has.

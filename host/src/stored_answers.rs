@@ -12,6 +12,7 @@ use crate::random::{moved, Random};
 use crate::reference;
 use crate::rules::{self, Reply, Settings};
 use crate::second_tries::SecondTries;
+use crate::signs::Signs;
 use crate::turns::Turns;
 use std::f64::consts::PI;
 use std::fmt;
@@ -20,7 +21,7 @@ const SEED: u64 = 0x5374_6F72;
 const FILES: usize = 2_200;
 /// At least so many of each kind in each slot, of whole turns in either longitude function, of longitudes −0, of each length that decides on a rule, of
 /// each side of both limits, of each event of second tries and of two arcs, of each place in each quarter of a cap and of each height about the
-/// transition, and at most so many jobs tried for them.
+/// transition, of each answer of signs by order, each reason for none and each limit there, and at most so many jobs tried for them.
 const OF_A_KIND: u64 = 4;
 /// So many of each class of two arcs.
 const OF_TWO_ARCS: usize = 6;
@@ -40,6 +41,7 @@ pub struct Stored {
     limits: Limits,
     second_tries: SecondTries,
     quarters: Quarters,
+    signs: Signs,
     crossings: Crossings,
     maker: Maker,
 }
@@ -55,6 +57,7 @@ pub fn make() -> Result<Stored, String> {
         limits: Limits::default(),
         second_tries: SecondTries::default(),
         quarters: Quarters::default(),
+        signs: Signs::default(),
         crossings: Crossings::default(),
         maker: Maker::new(SEED),
     };
@@ -85,6 +88,11 @@ pub fn make() -> Result<Stored, String> {
         |it| it.quarters.least(),
         |it, reply| it.quarters.least_of(reply),
     );
+    stored.add_until(
+        inputs::about_signs,
+        |it| it.signs.least(),
+        |it, reply| it.signs.least_of(reply),
+    );
     stored.add_two_arcs();
     stored.add_until(
         two_arcs::any,
@@ -97,6 +105,7 @@ pub fn make() -> Result<Stored, String> {
         stored.limits.missing(),
         stored.second_tries.missing(),
         stored.quarters.missing(),
+        stored.signs.missing(),
         stored.crossings.missing(),
     ]
     .concat();
@@ -134,6 +143,7 @@ impl Stored {
             self.limits.count(reply);
             self.second_tries.count(reply);
             self.quarters.count(reply);
+            self.signs.count(reply);
             self.crossings.count(reply);
         }
         let number = usize::from(answer.number);

@@ -1,7 +1,9 @@
 -- A number and its negative have the same size and, where they are numbers, opposite signs.
 use lib.Ieee.{Float, nan, inf, fin, neg}
+use lib.Ieee.Bits.{is_true}
+use lib.Ieee.Fits.{and_l, and_r}
 use mathlib.Core.Path.{◌≡◌, refl}
-use mathlib.Core.Bool.{Bool, true, false, not, ◌&&◌, false≢true}
+use mathlib.Core.Bool.{true, false, not, ◌&&◌, false≢true}
 use Rattle.angles.specs.Floats.{sign_of, finite_of, abs_of, signed_of}
 use Rattle.angles.specs.Inverse.{reflected_of, first_quadrant, atan2_of}
 
@@ -24,21 +26,14 @@ other_sign (inf s) h = absurd (false≢true h)
 other_sign (fin s m e) h = refl
 
 -- The finite x and y, and any others.
-numbers : (y x : Float) → (finite_of y ≡ true) × (finite_of x ≡ true)
-    → (atan2_of y x ≡ signed_of (sign_of y) (reflected_of (sign_of x) (first_quadrant (abs_of y) (abs_of x))))
-    × (atan2_of (neg y) (neg x) ≡ signed_of (not (sign_of y)) (reflected_of (not (sign_of x)) (first_quadrant (abs_of y) (abs_of x))))
-unfolding atan2_of
-numbers y x h =
-    (rw (h.0, h.1) refl, rw (same_finite y, same_finite x, h.0, h.1, same_size y, same_size x, other_sign y h.0, other_sign x h.1) refl)
-
-both : (a b : Bool) → (a && b) ≡ true → (a ≡ true) × (b ≡ true)
-both true b h = (refl, h)
-both false b h = absurd (false≢true h)
-
 pub of_numbers : (y x : Float) → (finite_of y && finite_of x) ≡ true
     → (atan2_of y x ≡ signed_of (sign_of y) (reflected_of (sign_of x) (first_quadrant (abs_of y) (abs_of x))))
     × (atan2_of (neg y) (neg x) ≡ signed_of (not (sign_of y)) (reflected_of (not (sign_of x)) (first_quadrant (abs_of y) (abs_of x))))
-of_numbers y x h = numbers y x (both (finite_of y) (finite_of x) h)
+unfolding atan2_of
+of_numbers y x h =
+    let fy = is_true (finite_of y) (and_l (finite_of y) (finite_of x) (rw h tt)) in
+    let fx = is_true (finite_of x) (and_r (finite_of y) (finite_of x) (rw h tt)) in
+    (rw h refl, rw (same_finite y, same_finite x, h, same_size y, same_size x, other_sign y fy, other_sign x fx) refl)
 
 pub of_others : (y x : Float) → (finite_of y && finite_of x) ≡ false → (atan2_of y x ≡ nan) × (atan2_of (neg y) (neg x) ≡ nan)
 unfolding atan2_of

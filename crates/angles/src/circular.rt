@@ -51,22 +51,19 @@ fn cosine_series(r: f64) -> f64
     )
 }
 
-// Sine and cosine of an r from 0 to π/2.
+// Sine and cosine of an r from 0 to π/2: past π/4 they are cosine and sine of what is left to π/2.
 #[tactic(auto, unfolding(crate::specs::Circular::within_quarter_turn))]
 fn within_quarter_turn(r: f64) -> SinCos
     ensures { result ≡ within_quarter_turn r }
 {
-    if r > QUARTER_PI {
-        let q = HALF_PI - r;
-        SinCos {
-            sin: cosine_series(q),
-            cos: sine_series(q),
-        }
+    let past = r > QUARTER_PI;
+    let q = if past { HALF_PI - r } else { r };
+    let sin = sine_series(q);
+    let cos = cosine_series(q);
+    if past {
+        SinCos { sin: cos, cos: sin }
     } else {
-        SinCos {
-            sin: sine_series(r),
-            cos: cosine_series(r),
-        }
+        SinCos { sin, cos }
     }
 }
 
@@ -129,7 +126,7 @@ pub fn sin_cos(v: f64) -> SinCos
     if v.is_nan() {
         return SinCos { sin: v, cos: v };
     }
-    let a = float::abs(v);
+    let a = float::size(v);
     let k = quarter_turns(a);
     let r = a - (k as f64) * HALF_PI;
     within_quarter_turn(r).turned_by(k).signed(float::sign(v))

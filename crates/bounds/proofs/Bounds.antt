@@ -77,7 +77,7 @@ spread x b y a c d = omega arith
 both_sums : (u u' v v' w w' z z' : ℕ) → u + v ≤ w + z → u' + v' ≤ w' + z' → u + u' + (v + v') ≤ w + w' + (z + z')
 both_sums u u' v v' w w' z z' h k = omega arith
 
-sum_below : (p n a p' n' a' q m b q' m' b' : ℕ)
+pub sum_below : (p n a p' n' a' q m b q' m' b' : ℕ)
     → p * a' + n' * a ≤ p' * a + n * a'
     → q * b' + m' * b ≤ q' * b + m * b'
     → (p * b + q * a) * (a' * b') + (n' * b' + m' * a') * (a * b) ≤ (p' * b' + q' * a') * (a * b) + (n * b + m * a) * (a' * b')
@@ -199,17 +199,17 @@ mul_within w v t = covered (mul_ends w v) t
 
 -- ---- x / y for an x from 0 and a y above 0
 
-above_zero : (x : Float) → T (positive x) → (T (finite x)) × (0 < plus_of x) × (minus_of x ≡ 0)
+pub above_zero : (x : Float) → T (positive x) → (T (finite x)) × (0 < plus_of x) × (minus_of x ≡ 0)
 above_zero nan p = absurd p
 above_zero (inf s) p = absurd p
 above_zero (fin true m e) p = absurd p
 above_zero (fin false m e) p = (tt, mul-pos (ltb→lt 0 m p) (up_pos e), refl)
 
-div_low : (x y : Float) → T (finite x) → T (finite y) → minus_of x ≡ 0 → 0 < plus_of y → T (le plus_zero (x ⊘ y))
+pub div_low : (x y : Float) → T (finite x) → T (finite y) → minus_of x ≡ 0 → 0 < plus_of y → T (le plus_zero (x ⊘ y))
 div_low x y f g z p =
     rounds_le 0 0 1 _ _ _ (lit≤ tt) (mul-pos p (den_pos x)) zero_rounds (div_rounds x y f g p) (omega (arith, ap (λ (t : ℕ). t * den y) z))
 
-quotients : (x a h b l c y d : ℕ) → x * b ≤ h * a → l * d ≤ y * c → x * d * (l * b) ≤ h * c * (y * a)
+pub quotients : (x a h b l c y d : ℕ) → x * b ≤ h * a → l * d ≤ y * c → x * d * (l * b) ≤ h * c * (y * a)
 quotients x a h b l c y d i j = let t = mul-le-mul i j in omega arith
 
 pub div_within : {hi lo hi' a b x y : Float}
@@ -289,7 +289,7 @@ module _ (x : Float) (held : T (fits binary64 x)) (p : T (positive x)) where
   abbrev near : Nearer x (root_of x)
   near = root_is_nearer x held p
 
-  root_low : (a : Float) → Value a → num a * num a * den x ≤ num x * (den a * den a) → T (le a (root_of x))
+  pub root_low : (a : Float) → Value a → num a * num a * den x ≤ num x * (den a * den a) → T (le a (root_of x))
   root_low a v h =
       let r = root_of x in
       not_below a r v.1 near.value.1
@@ -298,7 +298,7 @@ module _ (x : Float) (held : T (fits binary64 x)) (p : T (positive x)) where
       let t = smaller_sum (num r * den a) (num a * den r) (den x) (num x * (den r * den a * (den r * den a))) k (omega arith) in
       omega arith))
 
-  root_high : (b : Float) → Value b → num x * (den b * den b) ≤ num b * num b * den x → T (le (root_of x) b)
+  pub root_high : (b : Float) → Value b → num x * (den b * den b) ≤ num b * num b * den x → T (le (root_of x) b)
   root_high b v h =
       let r = root_of x in
       not_below r b near.value.1 v.1

@@ -3,3 +3,7 @@ pub mod Order
 pub mod Rounding
 pub mod Bounds
 pub mod Ranges
+pub mod Exchanged
+pub mod Negated
+pub mod Squares
+pub mod Sizes

@@ -239,6 +239,37 @@ not_less x y f g h = by (le y x) refl
     by true e = tt
     by false e = true≢false (sym (above y x (not_nan y g) (not_nan x f) e) ∙ h)
 
+-- strict order and the other
+pub no_both : (x y : Float) → lt x y ≡ true → T (le y x) → ⊥
+no_both x y h k = true≢false (sym (is_true (le y x) k) ∙ not_at_most y x h)
+
+pub le_trans_any : (x y z : Float) → T (le x y) → T (le y z) → T (le x z)
+unfolding le lt
+le_trans_any x nan z h k = absurd k
+le_trans_any nan (inf true) z h k = absurd h
+le_trans_any (inf true) (inf true) z h k = k
+le_trans_any (inf false) (inf true) z h k = absurd h
+le_trans_any (fin s m e) (inf true) z h k = absurd h
+le_trans_any x (inf false) nan h k = absurd k
+le_trans_any x (inf false) (inf true) h k = absurd k
+le_trans_any x (inf false) (inf false) h k = h
+le_trans_any x (inf false) (fin t n d) h k = absurd k
+le_trans_any x (fin t n d) z h k = le_trans_at x (fin t n d) z tt h k
+
+pub less_le_trans : (x y z : Float) → T (finite x) → T (finite z) → lt x y ≡ true → T (le y z) → lt x z ≡ true
+less_le_trans x y z f g h k = go (lt x z) refl
+  where
+    go : (b : Bool) → lt x z ≡ b → b ≡ true
+    go true e = refl
+    go false e = absurd (no_both x y h (le_trans_any y z x k (not_less x z f g e)))
+
+pub le_less_trans : (x y z : Float) → T (finite x) → T (finite z) → T (le x y) → lt y z ≡ true → lt x z ≡ true
+le_less_trans x y z f g h k = go (lt x z) refl
+  where
+    go : (b : Bool) → lt x z ≡ b → b ≡ true
+    go true e = refl
+    go false e = absurd (no_both y z k (le_trans_any z x y (not_less x z f g e) h))
+
 -- ---- signs
 
 pub neg_finite : (x : Float) → T (finite x) → T (finite (neg x))
@@ -268,7 +299,7 @@ neg_mono (fin false m e) (fin true n d) h =
 neg_mono (fin false m e) (fin false n d) h =
     let l = most→ false false (m * up e * down d) (n * up d * down e) h in most← true true (n * up d * down e) (m * up e * down d) (omega arith)
 
-neg_neg : (x : Float) → neg (neg x) ≡ x
+pub neg_neg : (x : Float) → neg (neg x) ≡ x
 unfolding neg
 neg_neg nan = refl
 neg_neg (inf true) = refl

@@ -19,7 +19,7 @@ pub record Rounds (z : Float) (p n c : ℕ) : Type 0 where
   pub is : z ≡ round binary64 sign size c
   pub by : p + cond sign size 0 ≡ n + cond sign 0 size
 
-same_fraction : {z : Float} {p n c p' n' : ℕ} → Rounds z p n c → p + n' ≡ p' + n → Rounds z p' n' c
+pub same_fraction : {z : Float} {p n c p' n' : ℕ} → Rounds z p n c → p + n' ≡ p' + n → Rounds z p' n' c
 same_fraction r e = record { sign = r.sign; size = r.size; is = r.is; by = let h = r.by in omega arith }
 
 -- ---- rounding keeps the order, by the sign that the result has
@@ -37,13 +37,13 @@ units_neg q k = go (ltb (q * 2 ^ k) (2 ^ 2098))
     go true = odd_neg 54 q k 1074
     go false = refl
 
-round_neg : (a c : ℕ) → round binary64 true a c ≡ neg (round binary64 false a c)
+pub round_neg : (a c : ℕ) → round binary64 true a c ≡ neg (round binary64 false a c)
 round_neg a c =
     let k = size (a * 2 ^ 1074 / c) - 53 in
     round_is binary64 true a c ∙ units_neg (closest (a * 2 ^ 1074) (c * 2 ^ k)) k ∙ ap neg (sym (round_is binary64 false a c))
 
 -- what rounds an a / c with the sign clear is not below what rounds one with the sign set
-abbrev unsigned : Float → Bool
+abbrev pub unsigned : Float → Bool
 unsigned nan = false
 unsigned (inf s) = not s
 unsigned (fin s m e) = not s
@@ -53,7 +53,7 @@ unfolding odd
 odd_unsigned d zero k l = tt
 odd_unsigned d (suc q) k l = tt
 
-round_unsigned : (a c : ℕ) → T (unsigned (round binary64 false a c))
+pub round_unsigned : (a c : ℕ) → T (unsigned (round binary64 false a c))
 unfolding units
 round_unsigned a c =
     let k = size (a * 2 ^ 1074 / c) - 53 in
@@ -165,7 +165,7 @@ add_rounds (fin false m e) (fin true n d) f g =
 add_rounds (fin false m e) (fin false n d) f g =
     same_fraction (sum_rounds false false (m * up e * down d) (n * up d * down e) (down e * down d)) (omega arith)
 
-mul_rounds : (x y : Float) → T (finite x) → T (finite y)
+pub mul_rounds : (x y : Float) → T (finite x) → T (finite y)
     → Rounds (x ⊗ y) (plus_of x * plus_of y + minus_of x * minus_of y) (plus_of x * minus_of y + minus_of x * plus_of y) (den x * den y)
 unfolding mul
 mul_rounds nan y f g = absurd f

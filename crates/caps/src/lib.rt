@@ -3,4 +3,5 @@
 #![tactic(auto)]
 
 pub mod cap;
+pub mod end;
 mod same_quarter;

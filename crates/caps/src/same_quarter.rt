@@ -1,8 +1,9 @@
 // A piece of an arc in a cap and within one quarter: the source's arc_special_point_in_pc_same_quarter.
 
 ghost use Rattle.std.specs.Prelude.{◌≡◌};
-ghost use Rattle.caps.specs.SameQuarter.{center_of, end_lon, quarter_piece, starting_choice, piece_plan, same_quarter_plan};
+ghost use Rattle.caps.specs.SameQuarter.{center_of, quarter_piece, starting_choice, piece_plan, same_quarter_plan};
 
+use super::end::End;
 use angles::{PI, float};
 use coo3d::point::Coo3D;
 use coo3d::vect3::Vect3;
@@ -58,14 +59,6 @@ fn cone_center(v1: Vect3, v2: Vect3) -> Center
             lon: lon.own,
         }
     }
-}
-
-// A longitude that ends a piece: the end of a quarter is π/2, and not the 0 of the next.
-#[tactic(auto, unfolding(crate::specs::SameQuarter::end_lon))]
-fn end_lon(lon: f64) -> f64
-    ensures { result ≡ end_lon lon }
-{
-    if lon == 0.0 { Coo3D::HALF_PI } else { lon }
 }
 
 fn piece(v1: Coo3D, v2: Coo3D) -> QuarterPiece
@@ -134,13 +127,11 @@ impl QuarterPiece {
 }
 
 #[tactic(auto, unfolding(crate::specs::SameQuarter::same_quarter_plan))]
-pub fn same_quarter_plan(p1: Coo3D, p2: Coo3D, precision: f64) -> Plan
-    ensures { result ≡ same_quarter_plan p1 p2 precision }
+pub fn same_quarter_plan(p1: End, p2: End, precision: f64) -> Plan
+    ensures { result ≡ same_quarter_plan p1.point p2.point precision }
 {
-    if p1.lon == p2.lon {
+    if p1.point.lon == p2.point.lon {
         return Plan::NoWalk;
     }
-    let v1 = Coo3D::from_sph_coo(p1.lon_mod, p1.lat);
-    let v2 = Coo3D::from_sph_coo(end_lon(p2.lon_mod), p2.lat);
-    piece(v1, v2).plan(Vect3::from(p1), Vect3::from(p2), precision)
+    piece(p1.moved(), p2.moved_last()).plan(Vect3::from(p1.point), Vect3::from(p2.point), precision)
 }

@@ -6,3 +6,6 @@ pub mod TurnExamples
 pub mod Remainders
 pub mod Opposites
 pub mod RememberedQuarters
+pub mod Exchanged
+pub mod LessNothing
+pub mod TurnedBack

@@ -50,39 +50,58 @@ whole_part k lo hi (fin false m e) s f g n p z h a b =
     let d : m * up e / down e ≡ k = div-eq_of_lt-le (down e) from (omega arith) in
     omega arith
 
--- from k quarter turns up to the f64 before one more
-counted : (k : ℕ) (lo hi x : Float) → k < 4
-    → T (finite lo) → T (finite hi)
-    → T (finite (lo ⊘ half_pi)) → T (finite (hi ⊘ half_pi))
-    → plus_of (lo ⊘ half_pi) ≡ k * den (lo ⊘ half_pi) → minus_of (lo ⊘ half_pi) ≡ 0 → plus_of (hi ⊘ half_pi) < suc k * den (hi ⊘ half_pi)
-    → T (le lo x) → T (le x hi)
-    → quarter_of x ≡ k
-unfolding quarter_of
-counted k lo hi x s f g i j p z h a b =
-    let n = finite_between lo x hi f g a b in
-    let from = quotients lo x f n a in
-    let to = quotients x hi n g b in
-    whole_part k (lo ⊘ half_pi) (hi ⊘ half_pi) (x ⊘ half_pi) s i j (finite_between (lo ⊘ half_pi) (x ⊘ half_pi) (hi ⊘ half_pi) i j from to) p z h from to
+-- the last f64 before one, two and three quarter turns
+abbrev pub last_of_first : Float
+last_of_first = fin false 7074237752028439 (negsuc 51)
 
-of_number : (x : Float) → T (fits binary64 x) → Within plus_zero last_of_turn x → quarter_of x ≡ quarter_turns x
-unfolding quarter_turns of_bits of_int mul div le
-of_number x f w = by (le (of_nat 3 ⊗ half_pi) x) (le (of_nat 2 ⊗ half_pi) x) (le (of_nat 1 ⊗ half_pi) x) refl refl refl
+abbrev pub last_of_second : Float
+last_of_second = fin false 7074237752028439 (negsuc 50)
+
+abbrev pub last_of_third : Float
+last_of_third = fin false 5305678314021329 (negsuc 49)
+
+-- what holds from each number of quarter turns up to the f64 before one more
+pub by_turn : (P : ℕ → Type 0) (x : Float) → T (fits binary64 x) → Within plus_zero last_of_turn x
+    → (Within plus_zero last_of_first x → P 0)
+    → (Within (of_nat 1 ⊗ half_pi) last_of_second x → P 1)
+    → (Within (of_nat 2 ⊗ half_pi) last_of_third x → P 2)
+    → (Within (of_nat 3 ⊗ half_pi) last_of_turn x → P 3)
+    → P (quarter_turns x)
+unfolding quarter_turns of_bits of_int mul le
+by_turn P x f w p0 p1 p2 p3 = by (le (of_nat 3 ⊗ half_pi) x) (le (of_nat 2 ⊗ half_pi) x) (le (of_nat 1 ⊗ half_pi) x) refl refl refl
   where
     before : (a j b i : ℕ) → suc b * 2 ^ suc j ≡ a * 2 ^ suc i → 2 ^ 52 ≤ b → le (fin false a (negsuc j)) x ≡ false → T (le x (fin false b (negsuc i)))
     before a j b i e l h = value_before a j b i e l x (number w) f (rw (above (fin false a (negsuc j)) x (not_nan (fin false a (negsuc j)) tt) (not_nan x (number w)) h) tt)
 
     by : (a b c : Bool) → le (of_nat 3 ⊗ half_pi) x ≡ a → le (of_nat 2 ⊗ half_pi) x ≡ b → le (of_nat 1 ⊗ half_pi) x ≡ c
-        → quarter_of x ≡ cond a 3 (cond b 2 (cond c 1 0))
-    by true b c p q r = counted 3 (of_nat 3 ⊗ half_pi) last_of_turn x (lit≤ tt) tt tt tt tt refl refl (lit≤ tt) (rw p tt) w.high
+        → P (cond a 3 (cond b 2 (cond c 1 0)))
+    by true b c p q r = p3 (record { from = tt; to = tt; low = rw p tt; high = w.high })
     by false true c p q r =
-        counted 2 (of_nat 2 ⊗ half_pi) (fin false 5305678314021329 (negsuc 49)) x (lit≤ tt) tt tt tt tt refl refl (lit≤ tt) (rw q tt)
-        (before 2652839157010665 48 5305678314021329 49 refl (lit≤ tt) p)
+        p2 (record { from = tt; to = tt; low = rw q tt; high = before 2652839157010665 48 5305678314021329 49 refl (lit≤ tt) p })
     by false false true p q r =
-        counted 1 (of_nat 1 ⊗ half_pi) (fin false 7074237752028439 (negsuc 50)) x (lit≤ tt) tt tt tt tt refl refl (lit≤ tt) (rw r tt)
-        (before 884279719003555 47 7074237752028439 50 refl (lit≤ tt) q)
+        p1 (record { from = tt; to = tt; low = rw r tt; high = before 884279719003555 47 7074237752028439 50 refl (lit≤ tt) q })
     by false false false p q r =
-        counted 0 plus_zero (fin false 7074237752028439 (negsuc 51)) x (lit≤ tt) tt tt tt tt refl refl (lit≤ tt) w.low
-        (before 884279719003555 48 7074237752028439 51 refl (lit≤ tt) r)
+        p0 (record { from = tt; to = tt; low = w.low; high = before 884279719003555 48 7074237752028439 51 refl (lit≤ tt) r })
+
+-- the quarter of an x from k quarter turns up to the f64 before one more
+counted : (k : ℕ) {lo hi x : Float} → Within lo hi x → k < 4
+    → T (finite (lo ⊘ half_pi)) → T (finite (hi ⊘ half_pi))
+    → plus_of (lo ⊘ half_pi) ≡ k * den (lo ⊘ half_pi) → minus_of (lo ⊘ half_pi) ≡ 0 → plus_of (hi ⊘ half_pi) < suc k * den (hi ⊘ half_pi)
+    → quarter_of x ≡ k
+unfolding quarter_of
+counted k {lo} {hi} {x} w s i j p z h =
+    let from = quotients lo x w.from (number w) w.low in
+    let to = quotients x hi (number w) w.to w.high in
+    whole_part k (lo ⊘ half_pi) (hi ⊘ half_pi) (x ⊘ half_pi) s i j (finite_between (lo ⊘ half_pi) (x ⊘ half_pi) (hi ⊘ half_pi) i j from to) p z h from to
+
+of_number : (x : Float) → T (fits binary64 x) → Within plus_zero last_of_turn x → quarter_of x ≡ quarter_turns x
+unfolding of_bits of_int mul div
+of_number x f w =
+    by_turn (λ k. quarter_of x ≡ k) x f w
+    (λ v. counted 0 v (lit≤ tt) tt tt refl refl (lit≤ tt))
+    (λ v. counted 1 v (lit≤ tt) tt tt refl refl (lit≤ tt))
+    (λ v. counted 2 v (lit≤ tt) tt tt refl refl (lit≤ tt))
+    (λ v. counted 3 v (lit≤ tt) tt tt refl refl (lit≤ tt))
 
 of_nan : quarter_of nan ≡ quarter_turns nan
 unfolding quarter_of to_unsigned div quarter_turns le mul of_int of_bits

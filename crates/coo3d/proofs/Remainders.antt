@@ -29,7 +29,7 @@ left_over x y k h l =
     ap (λ (z : ℕ). z % y) e ∙ add-mul-mod_self_right (x - k * y) k y ∙ mod-eq_of_lt i
 
 -- x − y of two floats without a sign, for y ≤ x
-difference : (m : ℕ) (e : ℤ) (n : ℕ) (d : ℤ) → n * up d * down e ≤ m * up e * down d
+pub difference : (m : ℕ) (e : ℤ) (n : ℕ) (d : ℤ) → n * up d * down e ≤ m * up e * down d
     → sub binary64 (fin false m e) (fin false n d) ≡ round binary64 false (m * up e * down d - n * up d * down e) (down e * down d)
 unfolding sub add neg sum
 difference m e n d h = rw (le-ltb (m * up e * down d) (n * up d * down e) h)

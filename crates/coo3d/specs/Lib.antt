@@ -4,3 +4,4 @@ pub mod Points
 pub mod Quarters
 pub mod WholeTurns
 pub mod RememberedQuarters
+pub mod TurnedBack

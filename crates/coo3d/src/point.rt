@@ -3,6 +3,7 @@
 ghost use Rattle.std.specs.Prelude.{◌≡◌, true};
 ghost use Rattle.coo3d.specs.LonLats.{is_longitude, is_latitude, InTurn, vec3_of};
 ghost use Rattle.coo3d.specs.Points.{coo3_d, from_vec3, from_sph_coo, vect_of};
+ghost use Rattle.coo3d.specs.TurnedBack.{OfAngles};
 
 use super::vect3::Vect3;
 use super::{lonlat, quarter};
@@ -52,8 +53,6 @@ impl Coo3D {
         Coo3D::at(v, p.lon, p.lat)
     }
 
-    // In its caller, so that what that does not use of the point is not worked out.
-    #[inline(always)]
     #[tactic(auto, unfolding(crate::specs::Points::from_sph_coo))]
     pub fn from_sph_coo(lon: f64, lat: f64) -> Coo3D
         ensures { result ≡ from_sph_coo lon lat }
@@ -73,6 +72,18 @@ impl Coo3D {
         ensures { result ≡ from_sph_coo lon lat }
     {
         Coo3D::at(v, lon, lat)
+    }
+
+    // The point moved to the first quarter of the sphere. Its own vector turned back is that of the angles, so no sine is worked out.
+    // In its caller, so that what that does not use of the point is not worked out either.
+    #[inline(always)]
+    #[tactic(auto, using(crate::proofs::TurnedBack::moved))]
+    pub fn in_first_quarter(self) -> Coo3D
+        requires { OfAngles self }
+        ensures { result ≡ from_sph_coo self.lon_mod self.lat }
+    {
+        let v = Vect3::from(self).turned_back(self.quarter);
+        Coo3D::at(v, self.lon_mod, self.lat)
     }
 }
 

@@ -2,6 +2,7 @@
 
 ghost use Rattle.std.specs.Prelude.{◌≡◌};
 ghost use Rattle.coo3d.specs.Vectors.{dot_of, cross_of, squared_norm_of, norm_of, divided_by, normalized_of, is_unit, new_unit, opposite_of};
+ghost use Rattle.coo3d.specs.TurnedBack.{turned_back};
 
 use angles::float;
 
@@ -77,6 +78,31 @@ impl Vect3 {
     {
         let v = Vect3 { x, y, z };
         if v.is_unit() { v } else { v.normalized() }
+    }
+
+    // Turned back by k quarters about the axis.
+    #[tactic(auto, unfolding(crate::specs::TurnedBack::turned_back))]
+    pub fn turned_back(self, k: u8) -> Vect3
+        ensures { result ≡ turned_back k self }
+    {
+        match k {
+            0 => self,
+            1 => Vect3 {
+                x: self.y,
+                y: -self.x,
+                z: self.z,
+            },
+            2 => Vect3 {
+                x: -self.x,
+                y: -self.y,
+                z: self.z,
+            },
+            _ => Vect3 {
+                x: -self.y,
+                y: self.x,
+                z: self.z,
+            },
+        }
     }
 
     #[tactic(auto, unfolding(crate::specs::Vectors::opposite_of))]

@@ -1,2 +1,5 @@
 pub mod Walking
 pub mod WalkAllowances
+pub mod SlopeParts
+pub mod SlopeSides
+pub mod SignsByOrder

@@ -3,3 +3,5 @@ pub mod Regions
 pub mod Walks
 pub mod WalkAllowances
 pub mod Halvings
+pub mod Sides
+pub mod Signs

@@ -4,5 +4,6 @@
 
 pub mod halving;
 pub mod region;
+pub mod signs;
 pub mod slope;
 pub mod walk;

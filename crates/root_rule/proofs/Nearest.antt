@@ -25,10 +25,10 @@ use Rattle.root_rule.proofs.Middle.{upper, lower}
 
 -- ---- a value of the format that is finite and not negative is n * 2 ^ j units, with n below 2 ^ 53
 
-record InUnits (x : Float) (n j : ℕ) : Type 0 where
-  short : n < 2 ^ 53
-  value : HasValue x false (n * 2 ^ j) (2 ^ 1074)
-  bound : n * 2 ^ j < 2 ^ 2098
+pub record InUnits (x : Float) (n j : ℕ) : Type 0 where
+  pub short : n < 2 ^ 53
+  pub value : HasValue x false (n * 2 ^ j) (2 ^ 1074)
+  pub bound : n * 2 ^ j < 2 ^ 2098
 
 pow_le_back : (a l : ℕ) → 2 ^ a ≤ 2 ^ l → a ≤ l
 pow_le_back a l h = le_of_suc-le-suc (lt_of_not-le (λ (g : suc l ≤ a). not-le_of_lt (lt_of_lt_of_le (pow-lt g) h) (le_of_eq refl)))
@@ -43,7 +43,7 @@ place n (negsuc k) h =
           ∙ sym (mul_assoc n (2 ^ (1074 - suc k)) (2 ^ suc k)),
     )
 
-in_units_lem : (x : Float) → T (fits binary64 x) → T (not_negative x) → (n : ℕ) × (j : ℕ) × InUnits x n j
+pub in_units_lem : (x : Float) → T (fits binary64 x) → T (not_negative x) → (n : ℕ) × (j : ℕ) × InUnits x n j
 unfolding fits
 in_units_lem nan h p = absurd p
 in_units_lem (inf s) h p = absurd p

@@ -12,7 +12,9 @@ use Rattle.plans.specs.Plans.{slot_at, cap_slots_at}
 use Rattle.plans.specs.declared.plan.Plan.{Plan}
 use Rattle.splits.specs.Splits.{split_into, lower_end, upper_end, split_of, inside_eqr}
 use Rattle.splits.proofs.Inside.{one_piece_inside}
-use Rattle.special_points_finder.specs.Equator.{arc_plan_in_eqr}
+use Rattle.plans.specs.declared.plan.Plan.TheVariants.{NoWalk}
+use Rattle.special_points_finder.specs.Equator.{SignsTold, arc_plan_in_eqr}
+use Rattle.special_points_finder.proofs.ToldSigns.{no_walk_ordered}
 use Rattle.special_points_finder.specs.Arcs.{plan_in_pc, plan_in_eqr, arc_plan, slots_at, arc_at}
 
 abbrev around : ℕ → Float → Slot → Slots
@@ -50,3 +52,10 @@ module _ (n : ℕ) (precision : Float) (v1 v2 : Vect3) (p1 p2 : Coo3D) (e : vect
   pub inside : inside_eqr v1.z ≡ true → inside_eqr v2.z ≡ true → (b : Bool) → lt v2.z v1.z ≡ b
       → Ok (around n precision (slot_at n (arc_plan_in_eqr (cond b v2 v1) (cond b v1 v2) precision))) ≡ arc_at n (split_of p1 p2) precision
   inside h k b l = ap (λ (p : Plan). Ok (around n precision (slot_at n p))) (sym (ordered b l)) ∙ sym (one_slot h k)
+
+  -- and where no walk is told, it is told of either order
+  pub no_walk_inside : inside_eqr v1.z ≡ true → inside_eqr v2.z ≡ true → (told : ℕ) → SignsTold told v1 v2 → told ≡ 1
+      → Ok (around n precision (slot_at n NoWalk)) ≡ arc_at n (split_of p1 p2) precision
+  no_walk_inside h k told t is =
+      let b = lt v2.z v1.z in
+      ap (λ (p : Plan). Ok (around n precision (slot_at n p))) (sym (no_walk_ordered b v1 v2 precision told t is)) ∙ inside h k b refl

@@ -35,18 +35,16 @@ pub fn reply(command: &Command, (precision, allowance): (f64, u8)) -> Reply {
         };
     }
     let mut slots = slots(&watched, &ends);
-    let mut tried_again = None;
     let piece = watched.work.in_equator;
-    if let (Some(slot @ Slot { kind: 2, .. }), Some(ends)) = (&mut slots[EQUATOR], piece) {
-        try_again(slot, &ends);
-        tried_again = Some(ends);
+    if let (Some(slot @ Slot { kind: 2, .. }), Some(ends)) = (&mut slots[EQUATOR], &piece) {
+        try_again(slot, ends);
     }
     Reply {
         content: Content::Slots(slots),
         panic,
         whole_turns: watched.work.whole_turns,
         crossed: watched.work.crossed,
-        tried_again,
+        piece,
         ..Reply::with_status(*command, 0)
     }
 }

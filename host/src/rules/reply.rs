@@ -33,8 +33,8 @@ pub struct Reply {
     pub whole_turns: WholeTurns,
     /// What was crossed there by a rule that length and y0 decided.
     pub crossed: Crossed,
-    /// The ends of the piece in the equator, if that is tried a second time.
-    pub tried_again: Option<[Coo3D; 2]>,
+    /// The ends of an arc's piece in the equator, in the source's order.
+    pub piece: Option<[Coo3D; 2]>,
 }
 
 impl Reply {
@@ -47,7 +47,7 @@ impl Reply {
             panic: None,
             whole_turns: WholeTurns::default(),
             crossed: Crossed::default(),
-            tried_again: None,
+            piece: None,
         }
     }
 
@@ -60,6 +60,14 @@ impl Reply {
         match &self.content {
             Content::Slots(slots) => slots.iter().filter(|slot| slot.is_none()).count(),
             _ => 0,
+        }
+    }
+
+    /// The ends of the piece in the equator, and the kind that its slot has.
+    pub fn in_equator(&self) -> Option<(&[Coo3D; 2], u8)> {
+        match (&self.piece, &self.content) {
+            (Some(ends), Content::Slots(slots)) => slots[EQUATOR].map(|slot| (ends, slot.kind)),
+            _ => None,
         }
     }
 

@@ -78,7 +78,12 @@ fn the_first_place_that_is_not_alike() {
     for _ in 0..PAIRS {
         let a = maker.mixed(340).bytes;
         let other = with_others(&a, &mut maker.random);
-        let b = changed(&other, &mut maker.random);
+        // With another byte or a command less two files are seldom alike.
+        let b = if maker.random.flip() {
+            changed(&other, &mut maker.random)
+        } else {
+            other
+        };
         if rules::commands(&b).is_err() {
             continue;
         }

@@ -20,7 +20,7 @@ returns c =
       ← c.turned_by.ensures,
       ← c.within_quarter_turn.ensures,
       ← c.quarter_turns-k.ensures,
-      ← c.abs-a.ensures,
+      ← c.size-a.ensures,
       nan_by_test c.args.v,
       ← c.if-is_nan.ensures.value,
     )
