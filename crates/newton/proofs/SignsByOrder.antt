@@ -5,7 +5,7 @@ use lib.Dec.{T}
 use Rattle.std.specs.Bool.{beq}
 use Prim.Native.Nat.{ℕ}
 use native.Mathlib.Omega.{arith}
-use lib.Ieee.{eq, Float, binary64, add, sub, mul, div, neg, of_bits, lt, le, fits}
+use lib.Ieee.{eq, Float, binary64, round, add, sub, mul, div, neg, of_bits, lt, le, fits}
 use lib.Ieee.Positive.{positive, positive-finite, between}
 use lib.Ieee.Scale.{finite}
 use Rattle.root.specs.Root.{root_of}
@@ -18,7 +18,7 @@ use Rattle.bounds.proofs.Squares.{root_from, root_to, positive_value, positive_o
 use Rattle.bounds.proofs.Sizes.{abs_div, abs_finite, below_finite, fits_abs, Sized, value_size, div_mono, sized_by_test, abs_value, mul_value, div_value, zero_under}
 use Rattle.newton.specs.Slopes.{have_same_sign, slope_at, f_eqr, cone_of, terms_of}
 use Rattle.newton.specs.Regions.{slope_in_eqr, cte_eqr}
-use Rattle.newton.specs.Sides.{SidesExamples, size_at, radicand_at, sides_of, below_cte, above_cte}
+use Rattle.newton.specs.Sides.{SideConstants, SidesExamples, size_at, radicand_at, sides_of, below_cte, above_cte}
 use Rattle.newton.specs.Signs.{SignsExamples, Told, same_sign_at}
 use Rattle.newton.proofs.SlopeParts.{three_quarters, end_of, twice, one_finite}
 use Rattle.newton.proofs.SlopeSides.{slope_at_height, Clear, same_sides, other_sides, below_clear, above_clear}
@@ -269,7 +269,19 @@ pub told_exchanged : {n : ℕ} {s cz z1 z2 : Float} → Told n s cz z1 z2 → To
 told_exchanged t =
     record { same = λ h c e. same_sign_comm _ _ ∙ t.same h c e; differ = λ h c e. same_sign_comm _ _ ∙ t.differ h c e }
 
--- ---- examples
+-- ---- the constants, and examples
+pub side_constants : SideConstants
+unfolding cte_eqr of_bits round lt mul
+side_constants =
+    record {
+      under_is = refl;
+      under_inverse_is = refl;
+      over_is = refl;
+      over_inverse_is = refl;
+      above_under = refl;
+      below_over = refl;
+    }
+
 pub sides_examples : SidesExamples
 unfolding sides_of below_cte above_cte size_at radicand_at of_bits lt neg add sub mul div
 sides_examples = record { both_below = refl; both_above = refl; one_each = refl; one_unclear = refl; nan_end = refl; nan_normal = refl }

@@ -75,7 +75,7 @@ fn pairs_of_both_answers() {
 fn the_first_place_that_is_not_alike() {
     let mut maker = Maker::new(SEED);
     let mut answers = [0; 2];
-    for _ in 0..PAIRS {
+    for _ in 0..2 * PAIRS {
         let a = maker.mixed(340).bytes;
         let other = with_others(&a, &mut maker.random);
         // With another byte or a command less two files are seldom alike.
@@ -105,7 +105,10 @@ fn the_first_place_that_is_not_alike() {
         }
         answers[usize::from(expected.is_ok())] += 1;
     }
-    assert!(answers.iter().all(|count| *count > 0), "{answers:?}");
+    assert!(
+        answers.iter().all(|count| *count > PAIRS / 10),
+        "{answers:?}"
+    );
 }
 
 #[test]
