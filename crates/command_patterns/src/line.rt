@@ -9,7 +9,7 @@ fn put_code(code: u8, after: u8, out: &mut [u8])
     requires { (code ≤ 6) × (length out.old ≡ 3) }
     ensures { out.new ≡ code_then code after }
 {
-    out.copy_from_slice(&[b'0', b'0' + code, after]);
+    *out.first_chunk_mut::<3>().unwrap() = [b'0', b'0' + code, after];
 }
 
 // The line of a pattern, by its codes.

@@ -23,6 +23,9 @@ byte_below TwoArcs = (omega arith, omega arith)
 pub coded : {byte : ℕ} (c : Code) → code_byte c ≡ byte → in_table byte ≡ true
 coded c e = subst (λ n. in_table n ≡ true) e (lt-ltb (code_byte c) 8 (byte_below c).1)
 
+pub not_the_end : {byte : ℕ} (c : Code) → code_byte c ≡ byte → byte ≢ 0
+not_the_end c e z = omega (arith, (byte_below c).0, e, z)
+
 with_code : (byte : ℕ) → byte ≢ 0 → byte < 8 → (c : Code) × (code_byte c ≡ byte)
 with_code zero n l = absurd (n refl)
 with_code (suc zero) n l = (Precision, refl)

@@ -1,4 +1,4 @@
--- The code's tables are the columns of the table, by the code.
+-- The widths that `Code` has, by its byte, are the columns of the table; src/code.rt cites these laws.
 use lib.Dec.{leb, leb→le}
 use lib.ListN.{get_or}
 use Prim.Native.Nat.{ℕ, zero, suc, ◌≤◌}

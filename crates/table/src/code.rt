@@ -55,7 +55,7 @@ impl TryFrom<u8> for Code {
 }
 
 impl Code {
-    #[tactic(auto, unfolding(crate::specs::Table::operand_width, crate::specs::Table::width_in, crate::specs::Table::row_of, crate::specs::Table::precision, crate::specs::Table::allowance, crate::specs::Table::arc, crate::specs::Table::cone_in_eqr, crate::specs::Table::cone_in_pc, crate::specs::Table::parallel, crate::specs::Table::two_arcs))]
+    #[tactic(auto, using(crate::proofs::Widths::operand_column, crate::proofs::Widths::widest_operands))]
     pub fn operand_width(self) -> usize
         ensures { (result ≡ operand_width (code_byte self)) × (result ≤ 64) }
     {
@@ -70,7 +70,7 @@ impl Code {
         }
     }
 
-    #[tactic(auto, unfolding(crate::specs::Table::answer_width, crate::specs::Table::row_of, crate::specs::Table::precision, crate::specs::Table::allowance, crate::specs::Table::arc, crate::specs::Table::cone_in_eqr, crate::specs::Table::cone_in_pc, crate::specs::Table::parallel, crate::specs::Table::two_arcs))]
+    #[tactic(auto, using(crate::proofs::Widths::answer_column, crate::proofs::Widths::widest_answer))]
     fn answer_width(self) -> usize
         ensures { (result ≡ answer_width (code_byte self)) × (result ≤ 90) }
     {
