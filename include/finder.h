@@ -34,8 +34,8 @@
 #include <stdint.h>
 
 /*
- * The stack of a call. Measured, not proved: the comparison of job files has met at most 5,392 bytes, return address included, and the longest chain
- * of calls has 5,400 by the sizes of the frames; here is half as much again. A dynamic linker that looks `memset` up at its first call
+ * The stack of a call. Measured, not proved: the comparison of job files has met at most 5,360 bytes, return address included, and the longest chain
+ * of calls has 5,368 by the sizes of the frames; here is half as much again. A dynamic linker that looks `memset` up at its first call
  * takes a part of this stack too (no more in all where it was tried); linked statically or with -z now there is no such look-up.
  */
 #define FINDER_STACK_BYTES 8192
