@@ -14,7 +14,7 @@ pub struct Found {
     pub end: usize,
 }
 
-// Where no command stands: the end, or a refusal. Not put into its caller: where a test of 00 stands beside the match over codes, the compiler jumps by the code,
+// Where no command's code stands: the end, or a refusal. Not put into its caller: where a test of 00 stands beside the match over codes, the compiler jumps by the code,
 // which takes longer than to read its width.
 #[inline(never)]
 fn no_command(job: &[u8], at: usize) -> Result<Option<Found>, Refusal>
